@@ -18,6 +18,7 @@ use btf_raw::{BtfCause, BtfFault};
 use checks::first_fault;
 use expect::equal;
 use std::alloc::{AllocError, Global};
+use std::fmt::Debug;
 use std::process::Abort;
 use tables::is_shown;
 
@@ -35,22 +36,31 @@ fn change(bytes: &mut [u8], edits: &[(usize, u8)]) {
 }
 
 /// The bytes with some of them changed.
-fn edited(alloc: Global, bytes: &[u8], edits: &[(usize, u8)]) -> Result<Vec<u8>, AllocError> {
-    let mut copy = Vec::from_slice(alloc, bytes)?;
+fn edited(rt: &impl Abort, alloc: Global, bytes: &[u8], edits: &[(usize, u8)]) -> Vec<u8> {
+    let mut copy = Vec::from_slice(alloc, bytes).expect(rt, "ample memory");
     change(&mut copy, edits);
-    Ok(copy)
+    copy
+}
+
+/// A length as a little-endian word.
+fn len_word(bytes: &[u8]) -> [u8; 4] {
+    u32::try_from(bytes.len()).unwrap_or(0).to_le_bytes()
 }
 
 /// The little-endian file of these records and strings.
-fn file(alloc: Global, records: &[u8], strings: &[u8]) -> Result<Vec<u8>, AllocError> {
-    let mut bytes = Vec::from_slice(alloc, b"\x9f\xeb\x01\0\x18\0\0\0\0\0\0\0")?;
-    let types_len = u32::try_from(records.len()).unwrap_or(0).to_le_bytes();
-    bytes.extend_from_slice(&types_len)?;
-    bytes.extend_from_slice(&types_len)?;
-    bytes.extend_from_slice(&u32::try_from(strings.len()).unwrap_or(0).to_le_bytes())?;
-    bytes.extend_from_slice(records)?;
-    bytes.extend_from_slice(strings)?;
-    Ok(bytes)
+fn file(rt: &impl Abort, alloc: Global, records: &[u8], strings: &[u8]) -> Vec<u8> {
+    let header = b"\x9f\xeb\x01\0\x18\0\0\0\0\0\0\0";
+    let mut bytes = Vec::from_slice(alloc, header).expect(rt, "ample memory");
+    for part in [
+        &len_word(records),
+        &len_word(records),
+        &len_word(strings),
+        records,
+        strings,
+    ] {
+        bytes.extend_from_slice(part).expect(rt, "ample memory");
+    }
+    bytes
 }
 
 /// The value of a hexadecimal digit.
@@ -63,7 +73,7 @@ fn digit(byte: u8) -> Option<u32> {
 }
 
 /// The bytes of little-endian 32-bit words, each written as eight hexadecimal digits.
-fn words(alloc: Global, text: &str) -> Result<Vec<u8>, AllocError> {
+fn words(rt: &impl Abort, alloc: Global, text: &str) -> Vec<u8> {
     let mut bytes = Vec::new(alloc);
     let mut word = 0_u32;
     let mut digits = 0_u32;
@@ -74,10 +84,11 @@ fn words(alloc: Global, text: &str) -> Result<Vec<u8>, AllocError> {
         word = word << 4 | value;
         digits = digits.wrapping_add(1);
         if digits % 8 == 0 {
-            bytes.extend_from_slice(&word.to_le_bytes())?;
+            let word = word.to_le_bytes();
+            bytes.extend_from_slice(&word).expect(rt, "ample memory");
         }
     }
-    Ok(bytes)
+    bytes
 }
 
 /// What a parser returns: no fault, or the first.
@@ -89,39 +100,71 @@ fn fault_of<T: Drop>(parsed: Result<T, BtfError>) -> Result<Option<BtfFault>, Al
     }
 }
 
-/// What both parsers return.
-fn both_faults(
-    alloc: Global,
-    bytes: &[u8],
-) -> Result<(Option<BtfFault>, Option<BtfFault>), AllocError> {
-    let owned = fault_of(Btf::parse(alloc, bytes))?;
-    let borrowed = fault_of(BtfView::parse(alloc, bytes))?;
-    Ok((owned, borrowed))
-}
-
-/// Checks that both parsers and the reference checker find this fault first.
-fn is_refused(
+/// Checks that both parsers find this fault first, or none.
+fn check_parsers(
     rt: &impl Abort,
     alloc: Global,
     bytes: &[u8],
-    fault: BtfFault,
-    name: &str,
-) -> Result<(), AllocError> {
-    let found = (both_faults(alloc, bytes)?, first_fault(alloc, bytes)?);
-    let wanted = Some(fault);
-    equal(rt, &found, &((wanted, wanted), wanted), &name);
-    Ok(())
+    fault: Option<BtfFault>,
+    case: &impl Debug,
+) {
+    let owned = fault_of(Btf::parse(alloc, bytes));
+    equal(rt, &owned, &Ok(fault), case);
+    let borrowed = fault_of(BtfView::parse(alloc, bytes));
+    equal(rt, &borrowed, &Ok(fault), case);
 }
 
-/// Checks that the reference checker finds no fault, and that both tables have these heads and items.
-fn is_accepted(
-    rt: &impl Abort,
-    alloc: Global,
-    bytes: &[u8],
-    walk: &str,
-    name: &str,
-) -> Result<(), BtfError> {
-    equal(rt, &first_fault(alloc, bytes)?, &None, &name);
-    is_shown(rt, alloc, Btf::parse(alloc, bytes), walk, name)?;
-    is_shown(rt, alloc, BtfView::parse(alloc, bytes), walk, name)
+/// How the bytes of a file are given.
+#[derive(Clone, Copy)]
+enum Source {
+    /// A file, and bytes that are changed in it.
+    Edited(&'static [u8], &'static [(usize, u8)]),
+    /// The fields of the records of a little-endian file, in hexadecimal, and its strings. The records begin at byte 24.
+    Fields(&'static str, &'static [u8]),
+}
+
+impl Source {
+    fn bytes(self, rt: &impl Abort, alloc: Global) -> Vec<u8> {
+        match self {
+            Source::Edited(bytes, edits) => edited(rt, alloc, bytes, edits),
+            Source::Fields(text, strings) => file(rt, alloc, &words(rt, alloc, text), strings),
+        }
+    }
+}
+
+/// What both parsers make of a file.
+#[derive(Clone, Copy)]
+enum Wanted {
+    /// The offset and the cause of its first fault.
+    Fault(u64, BtfCause),
+    /// The heads and items of its table, one a line.
+    Lines(&'static str),
+}
+
+/// A file, and what both parsers make of it. The reference checker finds the same fault, or none.
+struct Row {
+    name: &'static str,
+    file: Source,
+    wanted: Wanted,
+}
+
+impl Row {
+    fn check(&self, rt: &impl Abort, alloc: Global, bytes: &[u8]) {
+        let fault = match self.wanted {
+            Wanted::Fault(pos, cause) => Some(BtfFault { pos, cause }),
+            Wanted::Lines(_) => None,
+        };
+        equal(rt, &first_fault(rt, alloc, bytes), &fault, &self.name);
+        check_parsers(rt, alloc, bytes, fault, &self.name);
+        if let Wanted::Lines(lines) = self.wanted {
+            is_shown(rt, alloc, Btf::parse(alloc, bytes), lines, self.name);
+            is_shown(rt, alloc, BtfView::parse(alloc, bytes), lines, self.name);
+        }
+    }
+}
+
+fn check_all(rt: &impl Abort, alloc: Global, rows: &[Row]) {
+    for row in rows {
+        row.check(rt, alloc, &row.file.bytes(rt, alloc));
+    }
 }

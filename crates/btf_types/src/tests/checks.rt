@@ -5,7 +5,8 @@ mod fields;
 
 use btf_raw::{BtfCause, BtfFault};
 use fields::field_faults;
-use std::alloc::{AllocError, Global};
+use std::alloc::Global;
+use std::process::Abort;
 
 /// What a field of a record is.
 #[derive(Clone, Copy, PartialEq, Eq)]
@@ -93,14 +94,26 @@ impl Faults {
             self.first = Some(BtfFault { pos, cause });
         }
     }
+
+    /// Notes those of several faults that hold.
+    fn note_each(&mut self, rows: &[(bool, u64, BtfCause)]) {
+        for (holds, pos, cause) in rows {
+            self.note(*holds, *pos, *cause);
+        }
+    }
 }
 
+/// The word at a place.
 fn word_at(bytes: &[u8], big: bool, pos: usize) -> Option<u32> {
-    match bytes.get(pos..)? {
-        [a, b, c, d, ..] if big => Some(u32::from_be_bytes([*a, *b, *c, *d])),
-        [a, b, c, d, ..] => Some(u32::from_le_bytes([*a, *b, *c, *d])),
-        _ => None,
+    let mut word = 0_u32;
+    for byte in bytes.get(pos..)?.get(..4)? {
+        word = if big {
+            word << 8 | u32::from(*byte)
+        } else {
+            word >> 8 | u32::from(*byte) << 24
+        };
     }
+    Some(word)
 }
 
 /// A record, from its first byte to the end of its section, and its offset in the file.
@@ -112,29 +125,29 @@ struct Record<'a> {
 }
 
 impl<'a> Record<'a> {
-    fn word(&self, j: usize) -> u32 {
+    fn word(self, j: usize) -> u32 {
         word_at(self.bytes, self.big, j.saturating_mul(4)).unwrap_or(0)
     }
 
-    fn kind(&self) -> u32 {
+    fn kind(self) -> u32 {
         self.word(1) >> 24 & 0x1f
     }
 
-    fn flag(&self) -> bool {
+    fn flag(self) -> bool {
         self.word(1) >> 31 == 1
     }
 
-    fn vlen(&self) -> u32 {
+    fn vlen(self) -> u32 {
         self.word(1) & 0xffff
     }
 
     /// The offset of field j in the file.
-    fn place(&self, j: usize) -> u64 {
+    fn place(self, j: usize) -> u64 {
         self.pos.saturating_add((j as u64).saturating_mul(4))
     }
 
     /// How many fields it has.
-    fn len(&self) -> usize {
+    fn len(self) -> usize {
         match layout_of(self.kind()) {
             Some(Layout(_, _, _, words, item)) => item
                 .len()
@@ -146,7 +159,7 @@ impl<'a> Record<'a> {
     }
 
     /// What field j is.
-    fn role(&self, j: usize) -> Word {
+    fn role(self, j: usize) -> Word {
         let Some(Layout(_, third, _, words, item)) = layout_of(self.kind()) else {
             return Word::Any;
         };
@@ -160,11 +173,11 @@ impl<'a> Record<'a> {
         }
     }
 
-    fn width(&self, j: usize) -> u32 {
+    fn width(self, j: usize) -> u32 {
         if self.flag() { self.word(j) >> 24 } else { 0 }
     }
 
-    fn bit_offset(&self, j: usize) -> u32 {
+    fn bit_offset(self, j: usize) -> u32 {
         if self.flag() {
             self.word(j) & 0xff_ffff
         } else {
@@ -173,7 +186,7 @@ impl<'a> Record<'a> {
     }
 
     /// Whether it is a STRUCT or UNION in which some width isn't 0.
-    fn has_bit_fields(&self) -> bool {
+    fn has_bit_fields(self) -> bool {
         for j in 3..self.len() {
             if self.role(j) == Word::Offset && self.width(j) != 0 {
                 return true;
@@ -223,16 +236,18 @@ fn number_faults(faults: &mut Faults, bytes: &[u8], big: bool) {
     let strings = (number(bytes, big, 16), number(bytes, big, 20));
     let end = header.saturating_add(types.1).saturating_add(strings.1);
     let tail = tail_byte(bytes, header);
-    let header_fits = (24..=len.min(4096)).contains(&header);
-    let strings_fit = (1..=16_777_216).contains(&strings.1);
-    faults.note(bytes.get(2) != Some(&1), 2, BtfCause::Version);
-    faults.note(bytes.get(3) != Some(&0), 3, BtfCause::Flags);
-    faults.note(!header_fits, 4, BtfCause::HeaderLength);
-    faults.note(tail.is_some(), tail.unwrap_or(0), BtfCause::HeaderTail);
-    faults.note(types.1 > 33_554_432, 12, BtfCause::TypeLength);
-    faults.note(!strings_fit, 20, BtfCause::StringLength);
-    faults.note(!are_adjacent(types, strings), 8, BtfCause::Sections);
-    faults.note(end != len, end.min(len), BtfCause::FileLength);
+    let header_fits = header >= 24 && header <= len.min(4096);
+    let strings_fit = strings.1 >= 1 && strings.1 <= 16_777_216;
+    faults.note_each(&[
+        (bytes.get(2).copied() != Some(1), 2, BtfCause::Version),
+        (bytes.get(3).copied() != Some(0), 3, BtfCause::Flags),
+        (!header_fits, 4, BtfCause::HeaderLength),
+        (tail.is_some(), tail.unwrap_or(0), BtfCause::HeaderTail),
+        (types.1 > 33_554_432, 12, BtfCause::TypeLength),
+        (!strings_fit, 20, BtfCause::StringLength),
+        (!are_adjacent(types, strings), 8, BtfCause::Sections),
+        (end != len, end.min(len), BtfCause::FileLength),
+    ]);
 }
 
 fn header_faults(faults: &mut Faults, bytes: &[u8]) {
@@ -271,12 +286,12 @@ fn sections_of(bytes: &[u8]) -> Option<Sections<'_>> {
 fn string_faults(faults: &mut Faults, file: Sections) {
     let first = file.strings_pos;
     let last = first.saturating_add(file.strings.len().saturating_sub(1) as u64);
-    faults.note(
-        file.strings.first() != Some(&0),
-        first,
-        BtfCause::FirstString,
-    );
-    faults.note(file.strings.last() != Some(&0), last, BtfCause::LastString);
+    let begins = file.strings.starts_with(b"\0");
+    let ends = file.strings.ends_with(b"\0");
+    faults.note_each(&[
+        (!begins, first, BtfCause::FirstString),
+        (!ends, last, BtfCause::LastString),
+    ]);
 }
 
 /// Whether a kind exists, may have kind_flag 1, and may have a vlen. A kind that doesn't exist has no fault but that.
@@ -293,11 +308,13 @@ fn info_faults(faults: &mut Faults, record: Record) {
     let (is_kind, has_flag, has_vlen) = allowed(record.kind());
     let len = record.bytes.len();
     let is_cut = len >= 12 && len < record.len().saturating_mul(4);
-    faults.note(info & 0x60ff_0000 != 0, at, BtfCause::InfoBits);
-    faults.note(!is_kind, at, BtfCause::KindNumber);
-    faults.note(record.flag() && !has_flag, at, BtfCause::FlagSet);
-    faults.note(record.vlen() != 0 && !has_vlen, at, BtfCause::Vlen);
-    faults.note(is_cut, record.place(3), BtfCause::TailCut);
+    faults.note_each(&[
+        (info & 0x60ff_0000 != 0, at, BtfCause::InfoBits),
+        (!is_kind, at, BtfCause::KindNumber),
+        (record.flag() && !has_flag, at, BtfCause::FlagSet),
+        (record.vlen() != 0 && !has_vlen, at, BtfCause::Vlen),
+        (is_cut, record.place(3), BtfCause::TailCut),
+    ]);
 }
 
 /// The faults of a record's frame.
@@ -309,29 +326,35 @@ fn frame_faults(faults: &mut Faults, record: Record) {
     }
 }
 
+/// The record that begins where these last bytes of the types do.
+fn record_of<'a>(file: Sections<'a>, rest: &'a [u8]) -> Record<'a> {
+    let before = file.types.len().saturating_sub(rest.len()) as u64;
+    Record {
+        big: file.big,
+        pos: file.types_pos.saturating_add(before),
+        bytes: rest,
+    }
+}
+
 /// The records up to the first whose frame has a fault; these faults are noted.
 fn frames<'a>(
+    rt: &impl Abort,
     faults: &mut Faults,
     alloc: Global,
     file: Sections<'a>,
-) -> Result<Vec<Record<'a>>, AllocError> {
+) -> Vec<Record<'a>> {
     let mut records = Vec::new(alloc);
     let mut rest = file.types;
     for _ in 0..file.types.len() {
         if rest.is_empty() || faults.first.is_some() {
             break;
         }
-        let before = file.types.len().saturating_sub(rest.len()) as u64;
-        let record = Record {
-            big: file.big,
-            pos: file.types_pos.saturating_add(before),
-            bytes: rest,
-        };
+        let record = record_of(file, rest);
         frame_faults(faults, record);
         rest = rest.get(record.len().saturating_mul(4)..).unwrap_or(&[]);
-        records.push(record)?;
+        records.push(record).expect(rt, "ample memory");
     }
-    Ok(records)
+    records
 }
 
 /// The first fault of the header and the strings, or the sections.
@@ -351,15 +374,15 @@ fn opened(bytes: &[u8]) -> Result<Sections<'_>, Option<BtfFault>> {
 }
 
 /// The first fault of a file, if it has one.
-pub(crate) fn first_fault(alloc: Global, bytes: &[u8]) -> Result<Option<BtfFault>, AllocError> {
+pub(crate) fn first_fault(rt: &impl Abort, alloc: Global, bytes: &[u8]) -> Option<BtfFault> {
     let file = match opened(bytes) {
         Ok(file) => file,
-        Err(fault) => return Ok(fault),
+        Err(fault) => return fault,
     };
     let mut faults = Faults::new(true);
-    let records = frames(&mut faults, alloc, file)?;
+    let records = frames(rt, &mut faults, alloc, file);
     if faults.first.is_none() {
         field_faults(&mut faults, file.strings, &records);
     }
-    Ok(faults.first)
+    faults.first
 }

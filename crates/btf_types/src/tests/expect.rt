@@ -1,5 +1,5 @@
-//! Comparisons of tests. A call of these is proved in a fraction of the time of an `assert_eq!`, which brings its own text and its
-//! own ways to end to each use.
+//! Comparisons of tests. A call of these is proved in a fraction of the time of an `assert_eq!`, which is proved with its text and its
+//! ends wherever it is written. Unlike it they add no fact to the proof.
 
 use std::fmt::Debug;
 use std::process::Abort;
@@ -11,7 +11,7 @@ pub(crate) fn equal<T: PartialEq + Debug>(
     wanted: &T,
     case: &impl Debug,
 ) {
-    assert_eq!(rt; value, wanted, "{case:?}");
+    holds(rt, *value == *wanted, &(value, wanted, case));
 }
 
 /// Ends the test if something isn't so, and names the case.

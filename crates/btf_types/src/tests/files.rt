@@ -3,44 +3,35 @@
 use crate::tests::checks::first_fault;
 use crate::tests::examples::{BIG_ENUM64, BIG_INT, EMPTY, MEMBER, STRINGS_FIRST, TAGGED};
 use crate::tests::expect::equal;
-use crate::tests::{both_faults, change, fault, file};
+use crate::tests::{change, check_parsers, fault, file};
 use btf_raw::{BtfCause, BtfFault};
-use std::alloc::{AllocError, Global};
+use std::alloc::Global;
 use std::fmt::Debug;
 use std::process::Abort;
-use std::test::Fail;
 
 /// Checks that both parsers return what the reference does.
-fn is_checked(
-    rt: &impl Abort,
-    alloc: Global,
-    bytes: &[u8],
-    case: &impl Debug,
-) -> Result<(), AllocError> {
-    let wanted = first_fault(alloc, bytes)?;
-    equal(rt, &both_faults(alloc, bytes)?, &(wanted, wanted), case);
-    Ok(())
+fn is_checked(rt: &impl Abort, alloc: Global, bytes: &[u8], case: &impl Debug) {
+    let fault = first_fault(rt, alloc, bytes);
+    check_parsers(rt, alloc, bytes, fault, case);
 }
 
-/// Checks it for a file with each byte changed to every value.
-fn changes_are_checked(rt: &impl Abort, alloc: Global, file: &[u8]) -> Result<(), AllocError> {
-    let mut bytes = Vec::from_slice(alloc, file)?;
-    for (pos, old) in file.iter().enumerate() {
-        for value in 0..=u8::MAX {
-            change(&mut bytes, &[(pos, value)]);
-            is_checked(rt, alloc, &bytes, &("byte", pos, "as", value))?;
-        }
-        change(&mut bytes, &[(pos, *old)]);
+/// Checks it for a file with the byte at a place changed to every value, and puts the byte back.
+fn changes_are_checked(rt: &impl Abort, alloc: Global, bytes: &mut [u8], pos: usize, old: u8) {
+    for value in 0..=u8::MAX {
+        change(bytes, &[(pos, value)]);
+        is_checked(rt, alloc, bytes, &("byte", pos, "as", value));
     }
-    Ok(())
+    change(bytes, &[(pos, old)]);
 }
 
 #[test]
-fn files_with_a_changed_byte_have_the_reference_result(rt: HostRuntime) -> Result<(), Fail> {
+fn files_with_a_changed_byte_have_the_reference_result(rt: HostRuntime) {
     for file in [BIG_INT, STRINGS_FIRST, MEMBER, TAGGED, BIG_ENUM64] {
-        changes_are_checked(&rt, rt.alloc(), file)?;
+        let mut bytes = Vec::from_slice(rt.alloc(), file).expect(&rt, "ample memory");
+        for (pos, old) in file.iter().enumerate() {
+            changes_are_checked(&rt, rt.alloc(), &mut bytes, pos, *old);
+        }
     }
-    Ok(())
 }
 
 /// String sections, with and without texts that aren't UTF-8.
@@ -56,21 +47,20 @@ const STRINGS: &[&[u8]] = &[
 ];
 
 /// The file of an INT whose name begins at an offset of the strings.
-fn named_int(alloc: Global, off: u32, strings: &[u8]) -> Result<Vec<u8>, AllocError> {
-    let mut record = Vec::from_slice(alloc, &off.to_le_bytes())?;
-    record.extend_from_slice(b"\0\0\0\x01\x04\0\0\0\x20\0\0\0")?;
-    file(alloc, &record, strings)
+fn named_int(rt: &impl Abort, alloc: Global, off: u32, strings: &[u8]) -> Vec<u8> {
+    let mut record = *b"\0\0\0\0\0\0\0\x01\x04\0\0\0\x20\0\0\0";
+    record[..4].copy_from_slice(&off.to_le_bytes());
+    file(rt, alloc, &record, strings)
 }
 
 #[test]
-fn files_with_names_at_every_offset_have_the_reference_result(rt: HostRuntime) -> Result<(), Fail> {
+fn files_with_names_at_every_offset_have_the_reference_result(rt: HostRuntime) {
     for strings in STRINGS {
         for off in 0..120_u32 {
-            let bytes = named_int(rt.alloc(), off, strings)?;
-            is_checked(&rt, rt.alloc(), &bytes, &(strings, off))?;
+            let bytes = named_int(&rt, rt.alloc(), off, strings);
+            is_checked(&rt, rt.alloc(), &bytes, &(strings, off));
         }
     }
-    Ok(())
 }
 
 /// A file, its own header's length, and its length.
@@ -94,14 +84,19 @@ fn fault_of_cut(len: usize, header_len: usize) -> BtfFault {
 }
 
 #[test]
-fn files_cut_at_every_length_have_the_reference_result(rt: HostRuntime) -> Result<(), Fail> {
+fn files_cut_at_every_length_have_the_reference_result(rt: HostRuntime) {
     for Whole(file, header_len, file_len) in WHOLE {
         equal(&rt, &file.len(), file_len, &"the length");
         for len in 0..file.len() {
-            let wanted = Some(fault_of_cut(len, *header_len));
-            let found = both_faults(rt.alloc(), &file[..len])?;
-            equal(&rt, &found, &(wanted, wanted), &(file_len, "cut to", len));
+            let fault = fault_of_cut(len, *header_len);
+            let cut = &file[..len];
+            check_parsers(
+                &rt,
+                rt.alloc(),
+                cut,
+                Some(fault),
+                &(file_len, "cut to", len),
+            );
         }
     }
-    Ok(())
 }

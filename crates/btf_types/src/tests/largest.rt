@@ -1,29 +1,31 @@
 //! Names and sections as long as the limits allow, and files of several thousand names in each other.
 
 use crate::tests::expect::equal;
-use crate::tests::{both_faults, change, file};
+use crate::tests::{change, check_parsers, file};
 use crate::{Btf, BtfError, BtfView, Head, TypeTable};
 use btf_raw::{BtfCause, BtfFault};
-use std::alloc::{AllocError, Global};
+use std::alloc::Global;
 use std::process::Abort;
-use std::test::Fail;
 
 /// A string section: NUL, a number of `a`, and these bytes.
-fn letters(alloc: Global, len: usize, end: &[u8]) -> Result<Vec<u8>, AllocError> {
-    let mut strings = Vec::from_slice(alloc, b"\0")?;
-    strings.resize(len.saturating_add(1), b'a')?;
-    strings.extend_from_slice(end)?;
-    Ok(strings)
+fn letters(rt: &impl Abort, alloc: Global, len: usize, end: &[u8]) -> Vec<u8> {
+    let mut strings = Vec::from_slice(alloc, b"\0").expect(rt, "ample memory");
+    let len = len.saturating_add(1);
+    strings.resize(len, b'a').expect(rt, "ample memory");
+    strings.extend_from_slice(end).expect(rt, "ample memory");
+    strings
 }
 
 /// TYPEDEFs of void, named at the offsets 1, 2 and on.
-fn typedefs(alloc: Global, count: u32) -> Result<Vec<u8>, AllocError> {
+fn typedefs(rt: &impl Abort, alloc: Global, count: u32) -> Vec<u8> {
     let mut records = Vec::new(alloc);
     for i in 0..count {
-        records.extend_from_slice(&i.saturating_add(1).to_le_bytes())?;
-        records.extend_from_slice(b"\0\0\0\x08\0\0\0\0")?;
+        let name = i.saturating_add(1).to_le_bytes();
+        records.extend_from_slice(&name).expect(rt, "ample memory");
+        let rest = b"\0\0\0\x08\0\0\0\0";
+        records.extend_from_slice(rest).expect(rt, "ample memory");
     }
-    Ok(records)
+    records
 }
 
 /// A number of TYPEDEFs, the number of letters of the first name, the file's length, and its first fault.
@@ -52,56 +54,59 @@ fn name_len<T: TypeTable>(table: &T, id: u32) -> usize {
 /// The number of records in a table, and the lengths of the names of the first TYPEDEF and of the last.
 type Ends = (u32, usize, usize);
 
-fn ends<T: TypeTable + Drop>(parsed: Result<T, BtfError>) -> Result<Ends, BtfError> {
-    let table = parsed?;
-    let count = table.count();
-    Ok((count, name_len(&table, 1), name_len(&table, count)))
+fn ends<T: TypeTable + Drop>(parsed: Result<T, BtfError>) -> Option<Ends> {
+    match parsed {
+        Ok(table) => {
+            let count = table.count();
+            Some((count, name_len(&table, 1), name_len(&table, count)))
+        }
+        Err(_) => None,
+    }
 }
 
 /// Checks these of both tables of a file.
-fn has_ends(rt: &impl Abort, alloc: Global, bytes: &[u8], wanted: Ends) -> Result<(), BtfError> {
-    let owned = ends(Btf::parse(alloc, bytes))?;
-    let borrowed = ends(BtfView::parse(alloc, bytes))?;
-    equal(rt, &(owned, borrowed), &(wanted, wanted), &"the records");
-    Ok(())
+fn has_ends(rt: &impl Abort, alloc: Global, bytes: &[u8], wanted: Ends) {
+    let owned = ends(Btf::parse(alloc, bytes));
+    equal(rt, &owned, &Some(wanted), &"the owned table");
+    let borrowed = ends(BtfView::parse(alloc, bytes));
+    equal(rt, &borrowed, &Some(wanted), &"the borrowed table");
 }
 
 impl Nested {
-    fn file(&self, alloc: Global) -> Result<Vec<u8>, AllocError> {
-        let strings = letters(alloc, self.1, b"\0")?;
-        file(alloc, &typedefs(alloc, self.0)?, &strings)
+    fn file(&self, rt: &impl Abort, alloc: Global) -> Vec<u8> {
+        let strings = letters(rt, alloc, self.1, b"\0");
+        file(rt, alloc, &typedefs(rt, alloc, self.0), &strings)
     }
 
-    fn check(&self, rt: &impl Abort, alloc: Global) -> Result<(), BtfError> {
+    fn check(&self, rt: &impl Abort, alloc: Global, bytes: &[u8]) {
         let Nested(count, len, file_len, fault) = self;
-        let bytes = self.file(alloc)?;
-        let found = (bytes.len(), both_faults(alloc, &bytes)?);
-        equal(rt, &found, &(*file_len, (*fault, *fault)), &count);
-        if fault.is_some() {
-            return Ok(());
+        equal(rt, &bytes.len(), file_len, count);
+        check_parsers(rt, alloc, bytes, *fault, count);
+        if fault.is_none() {
+            let last = len.saturating_sub(*count as usize).saturating_add(1);
+            has_ends(rt, alloc, bytes, (*count, *len, last));
         }
-        let last = len.saturating_sub(*count as usize).saturating_add(1);
-        has_ends(rt, alloc, &bytes, (*count, *len, last))
     }
 }
 
 #[test]
-fn nested_names_are_accepted(rt: HostRuntime) -> Result<(), Fail> {
+fn nested_names_are_accepted(rt: HostRuntime) {
     for row in NESTED {
-        row.check(&rt, rt.alloc())?;
+        row.check(&rt, rt.alloc(), &row.file(&rt, rt.alloc()));
     }
-    Ok(())
 }
 
 /// The file of the most records that a type section holds: an ENUM with a value, and PTRs of it.
-fn most_records(alloc: Global) -> Result<Vec<u8>, AllocError> {
+fn most_records(rt: &impl Abort, alloc: Global) -> Vec<u8> {
     let head = b"\0\0\0\0\x01\0\0\x06\x04\0\0\0\0\0\0\0\0\0\0\0";
-    let mut records = Vec::from_slice(alloc, head)?;
-    records.resize(33_554_432, 0)?;
-    for record in records[20..].chunks_mut(12) {
-        change(record, &[(7, 2), (8, 1)]);
+    let mut records = Vec::from_slice(alloc, head).expect(rt, "ample memory");
+    for _ in 0..2_796_201 {
+        let pointer = b"\0\0\0\0\0\0\0\x02\x01\0\0\0";
+        records
+            .extend_from_slice(pointer)
+            .expect(rt, "ample memory");
     }
-    file(alloc, &records, b"\0")
+    file(rt, alloc, &records, b"\0")
 }
 
 /// Bytes that are changed in that file besides the earlier ones, and the first fault.
@@ -118,37 +123,41 @@ const LONGEST: &[Longest] = &[
     Longest(&[(12, 1)], Some(BtfFault { pos: 12, cause: BtfCause::TypeLength })),
 ];
 
-#[test]
-fn type_sections_up_to_the_limit_are_accepted(rt: HostRuntime) -> Result<(), Fail> {
-    let mut bytes = most_records(rt.alloc())?;
-    equal(&rt, &bytes.len(), &33_554_457, &"the file");
-    has_ends(&rt, rt.alloc(), &bytes, (2_796_202, 0, 0))?;
+/// Checks the file with each of these changes.
+fn check_longest(rt: &impl Abort, alloc: Global, bytes: &mut [u8]) {
     for Longest(edits, fault) in LONGEST {
-        change(&mut bytes, edits);
-        let found = both_faults(rt.alloc(), &bytes)?;
-        equal(&rt, &found, &(*fault, *fault), edits);
+        change(bytes, edits);
+        check_parsers(rt, alloc, bytes, *fault, edits);
     }
-    Ok(())
+}
+
+#[test]
+fn type_sections_up_to_the_limit_are_accepted(rt: HostRuntime) {
+    let mut bytes = most_records(&rt, rt.alloc());
+    equal(&rt, &bytes.len(), &33_554_457, &"the file");
+    has_ends(&rt, rt.alloc(), &bytes, (2_796_202, 0, 0));
+    check_longest(&rt, rt.alloc(), &mut bytes);
 }
 
 /// ENUMs with the largest number of values, 65,535, all of the same name.
-fn full_enums(alloc: Global, count: u32) -> Result<Vec<u8>, AllocError> {
+fn full_enums(rt: &impl Abort, alloc: Global, count: u32) -> Vec<u8> {
     let mut records = Vec::new(alloc);
     for _ in 0..count {
-        records.extend_from_slice(b"\0\0\0\0\xff\xff\0\x06\x04\0\0\0")?;
+        let head = b"\0\0\0\0\xff\xff\0\x06\x04\0\0\0";
+        records.extend_from_slice(head).expect(rt, "ample memory");
         for _ in 0..65_535 {
-            records.extend_from_slice(b"\x01\0\0\0\0\0\0\0")?;
+            let value = b"\x01\0\0\0\0\0\0\0";
+            records.extend_from_slice(value).expect(rt, "ample memory");
         }
     }
-    Ok(records)
+    records
 }
 
 /// Half a million values have the same name of a million bytes, next to a string that isn't UTF-8.
 #[test]
-fn many_uses_of_a_long_name_are_accepted(rt: HostRuntime) -> Result<(), Fail> {
-    let strings = letters(rt.alloc(), 1_000_000, b"\0\xff\0")?;
-    let bytes = file(rt.alloc(), &full_enums(rt.alloc(), 8)?, &strings)?;
-    let found = both_faults(rt.alloc(), &bytes)?;
-    equal(&rt, &found, &(None, None), &"the file");
-    Ok(())
+fn many_uses_of_a_long_name_are_accepted(rt: HostRuntime) {
+    let records = full_enums(&rt, rt.alloc(), 8);
+    let strings = letters(&rt, rt.alloc(), 1_000_000, b"\0\xff\0");
+    let bytes = file(&rt, rt.alloc(), &records, &strings);
+    check_parsers(&rt, rt.alloc(), &bytes, None, &"the file");
 }

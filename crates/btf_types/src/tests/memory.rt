@@ -7,7 +7,6 @@ use btf_raw::BtfCause;
 use bumpalo::Bump;
 use std::alloc::{AllocError, Global};
 use std::process::Abort;
-use std::test::Fail;
 
 /// The most bytes that a parser gets.
 const ROOM: usize = 2048;
@@ -56,12 +55,15 @@ fn arena(alloc: Global, room: usize) -> Result<Bump<Global>, AllocError> {
 }
 
 /// Nine TYPEDEFs with the name `t`, the first of void and each other of the one before, next to a string that isn't UTF-8.
-fn typedefs(alloc: Global) -> Result<Vec<u8>, AllocError> {
+fn typedefs(rt: &impl Abort, alloc: Global) -> Vec<u8> {
     let mut records = Vec::new(alloc);
     for target in 0..9_u8 {
-        records.extend_from_slice(&[1, 0, 0, 0, 0, 0, 0, 8, target, 0, 0, 0])?;
+        let record = [1, 0, 0, 0, 0, 0, 0, 8, target, 0, 0, 0];
+        records
+            .extend_from_slice(&record)
+            .expect(rt, "ample memory");
     }
-    file(alloc, &records, b"\0t\0\xff\0")
+    file(rt, alloc, &records, b"\0t\0\xff\0")
 }
 
 /// Whether a table contains these TYPEDEFs.
@@ -80,28 +82,32 @@ fn has_typedefs<T: TypeTable>(table: &T) -> bool {
 
 /// The fields of an ENUM of four bytes without a name. Its values are 0 to 8, with the names that are next to each other from
 /// offset 1.
-fn enum_words(alloc: Global) -> Result<Vec<u8>, AllocError> {
-    let mut words = Vec::from_slice(alloc, b"\0\0\0\0\x09\0\0\x06\x04\0\0\0")?;
+fn enum_words(rt: &impl Abort, alloc: Global) -> Vec<u8> {
+    let head = b"\0\0\0\0\x09\0\0\x06\x04\0\0\0";
+    let mut words = Vec::from_slice(alloc, head).expect(rt, "ample memory");
     for value in 0..9_u32 {
-        words.extend_from_slice(&(value * 129 + 1).to_le_bytes())?;
-        words.extend_from_slice(&value.to_le_bytes())?;
+        let (name, value) = ((value * 129 + 1).to_le_bytes(), value.to_le_bytes());
+        words.extend_from_slice(&name).expect(rt, "ample memory");
+        words.extend_from_slice(&value).expect(rt, "ample memory");
     }
-    Ok(words)
+    words
 }
 
 /// The names of these: 128 times `a`, 128 times `b`, and so on.
-fn long_strings(alloc: Global) -> Result<Vec<u8>, AllocError> {
-    let mut strings = Vec::from_slice(alloc, b"\0")?;
+fn long_strings(rt: &impl Abort, alloc: Global) -> Vec<u8> {
+    let mut strings = Vec::from_slice(alloc, b"\0").expect(rt, "ample memory");
     for letter in b'a'..=b'i' {
-        strings.extend_from_slice(&[letter; 128])?;
-        strings.push(0)?;
+        strings
+            .extend_from_slice(&[letter; 128])
+            .expect(rt, "ample memory");
+        strings.push(0).expect(rt, "ample memory");
     }
-    Ok(strings)
+    strings
 }
 
-fn long_names(alloc: Global) -> Result<Vec<u8>, AllocError> {
-    let words = enum_words(alloc)?;
-    file(alloc, &words, &long_strings(alloc)?)
+fn long_names(rt: &impl Abort, alloc: Global) -> Vec<u8> {
+    let words = enum_words(rt, alloc);
+    file(rt, alloc, &words, &long_strings(rt, alloc))
 }
 
 /// Whether an item is the value of this number in that ENUM.
@@ -145,12 +151,12 @@ fn returned<T: TypeTable>(parsed: &Result<T, BtfError>, wanted: Wanted) -> Outco
     }
 }
 
-/// The outcome of `Btf::parse` or of `BtfView::parse`.
-fn outcome_of(bump: &Bump<Global>, owned: bool, bytes: &[u8], wanted: Wanted) -> Outcome {
-    if owned {
-        returned(&Btf::parse(bump, bytes), wanted)
-    } else {
-        returned(&BtfView::parse(bump, bytes), wanted)
+/// The outcome of `Btf::parse` or of `BtfView::parse` in an arena.
+fn outcome_in(alloc: Global, room: usize, owned: bool, bytes: &[u8], wanted: Wanted) -> Outcome {
+    match arena(alloc, room) {
+        Ok(bump) if owned => returned(&Btf::parse(&bump, bytes), wanted),
+        Ok(bump) => returned(&BtfView::parse(&bump, bytes), wanted),
+        Err(AllocError) => Outcome::Wrong,
     }
 }
 
@@ -174,13 +180,12 @@ fn least_room(
     owned: bool,
     bytes: &[u8],
     wanted: Wanted,
-) -> Result<Result<Option<usize>, usize>, AllocError> {
+) -> Result<Option<usize>, usize> {
     let mut least = Ok(None);
     for room in 0..=ROOM {
-        let bump = arena(alloc, room)?;
-        least = after(least, room, outcome_of(&bump, owned, bytes, wanted));
+        least = after(least, room, outcome_in(alloc, room, owned, bytes, wanted));
     }
-    Ok(least)
+    least
 }
 
 /// Bytes that are changed in a file, what it is read as then, and how many bytes `BtfView` and `Btf` allocate at least before they return.
@@ -216,24 +221,24 @@ fn is_right(found: Result<Option<usize>, usize>, least: usize) -> bool {
 }
 
 /// Gives both parsers ever more memory.
-fn check_rooms(rt: &impl Abort, alloc: Global, file: &[u8], row: &Row) -> Result<(), AllocError> {
-    let bytes = edited(alloc, file, row.edits)?;
-    let borrowed = least_room(alloc, false, &bytes, row.wanted)?;
-    let owned = least_room(alloc, true, &bytes, row.wanted)?;
+fn check_rooms(rt: &impl Abort, alloc: Global, bytes: &[u8], row: &Row) {
+    let borrowed = least_room(alloc, false, bytes, row.wanted);
+    let owned = least_room(alloc, true, bytes, row.wanted);
     let right = is_right(borrowed, row.borrowed) && is_right(owned, row.owned);
     holds(rt, right, &(row.edits, borrowed, owned));
-    Ok(())
+}
+
+/// Does so for a file with each of these changes.
+fn check_file(rt: &impl Abort, alloc: Global, file: &[u8], rows: &[Row]) {
+    for row in rows {
+        check_rooms(rt, alloc, &edited(rt, alloc, file, row.edits), row);
+    }
 }
 
 #[test]
-fn parsers_succeed_or_run_out_of_memory_in_every_arena(rt: HostRuntime) -> Result<(), Fail> {
-    let typedefs = typedefs(rt.alloc())?;
-    for row in OF_TYPEDEFS {
-        check_rooms(&rt, rt.alloc(), &typedefs, row)?;
-    }
-    let long_names = long_names(rt.alloc())?;
-    for row in OF_LONG_NAMES {
-        check_rooms(&rt, rt.alloc(), &long_names, row)?;
-    }
-    Ok(())
+fn parsers_succeed_or_run_out_of_memory_in_every_arena(rt: HostRuntime) {
+    let file = typedefs(&rt, rt.alloc());
+    check_file(&rt, rt.alloc(), &file, OF_TYPEDEFS);
+    let file = long_names(&rt, rt.alloc());
+    check_file(&rt, rt.alloc(), &file, OF_LONG_NAMES);
 }

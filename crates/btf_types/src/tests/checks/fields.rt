@@ -12,11 +12,11 @@ struct Types<'a> {
 
 impl<'a> Types<'a> {
     /// The record that an id names.
-    fn named(&self, id: u32) -> Option<Record<'a>> {
+    fn named(self, id: u32) -> Option<Record<'a>> {
         self.records.get((id as usize).checked_sub(1)?).copied()
     }
 
-    fn kind(&self, id: u32) -> u32 {
+    fn kind(self, id: u32) -> u32 {
         match self.named(id) {
             Some(record) => record.kind(),
             None => 0,
@@ -24,7 +24,7 @@ impl<'a> Types<'a> {
     }
 
     /// The text at an offset of the strings.
-    fn text(&self, off: u32) -> Option<&'a [u8]> {
+    fn text(self, off: u32) -> Option<&'a [u8]> {
         let rest = self.strings.get(off as usize..)?;
         if rest.is_empty() {
             return None;
@@ -49,17 +49,13 @@ fn name_faults(faults: &mut Faults, types: Types, record: Record, j: usize) {
     };
     let (naming, is_empty) = (naming_of(record, j), text.is_empty());
     let is_utf8 = std::str::from_utf8(text).is_ok();
-    faults.note(!is_utf8, at, BtfCause::NameUtf8);
-    faults.note(
-        naming == Naming::Needed && is_empty,
-        at,
-        BtfCause::NameMissing,
-    );
-    faults.note(
-        naming == Naming::Unnamed && !is_empty,
-        at,
-        BtfCause::NameUnwanted,
-    );
+    let is_missing = naming == Naming::Needed && is_empty;
+    let is_unwanted = naming == Naming::Unnamed && !is_empty;
+    faults.note_each(&[
+        (!is_utf8, at, BtfCause::NameUtf8),
+        (is_missing, at, BtfCause::NameMissing),
+        (is_unwanted, at, BtfCause::NameUnwanted),
+    ]);
 }
 
 /// Whether a type is an INT that no member of a record with bit-fields may have.
@@ -91,9 +87,11 @@ fn type_faults(faults: &mut Faults, types: Types, record: Record, j: usize) {
     let is_beyond = id as usize > types.records.len();
     let is_wrong = target_is_wrong(record.kind(), types.kind(id));
     let is_odd = member_is_odd(types, record, id);
-    faults.note(is_beyond, at, BtfCause::Reference);
-    faults.note(!is_beyond && is_wrong, at, BtfCause::TargetKind);
-    faults.note(is_odd, at, BtfCause::MemberInt);
+    faults.note_each(&[
+        (is_beyond, at, BtfCause::Reference),
+        (!is_beyond && is_wrong, at, BtfCause::TargetKind),
+        (is_odd, at, BtfCause::MemberInt),
+    ]);
 }
 
 fn size_is_wrong(record: Record) -> bool {
@@ -142,23 +140,20 @@ fn component_is_wrong(types: Types, record: Record) -> bool {
 
 /// The faults of field j of a record.
 fn word_faults(faults: &mut Faults, types: Types, record: Record, j: usize) {
-    let (word, at) = (record.word(j), record.place(j));
-    let is_bad_func = record.kind() == 12 && record.vlen() > 2;
-    match record.role(j) {
-        Word::Name => name_faults(faults, types, record, j),
-        Word::Info => faults.note(is_bad_func, at, BtfCause::Linkage),
-        Word::Size => faults.note(size_is_wrong(record), at, BtfCause::Size),
-        Word::Zero => faults.note(word != 0, at, BtfCause::NotZero),
-        Word::Type => type_faults(faults, types, record, j),
-        Word::Int => faults.note(int_is_wrong(record), at, BtfCause::IntWord),
-        Word::Linkage => faults.note(word > 2, at, BtfCause::Linkage),
-        Word::Component => {
-            let is_wrong = component_is_wrong(types, record);
-            faults.note(is_wrong, at, BtfCause::Component)
-        }
-        Word::Offset => faults.note(member_is_out(record, j), at, BtfCause::MemberPlace),
-        Word::Any => (),
-    }
+    let word = record.word(j);
+    let (is_wrong, cause) = match record.role(j) {
+        Word::Name => return name_faults(faults, types, record, j),
+        Word::Type => return type_faults(faults, types, record, j),
+        Word::Info => (record.kind() == 12 && record.vlen() > 2, BtfCause::Linkage),
+        Word::Size => (size_is_wrong(record), BtfCause::Size),
+        Word::Zero => (word != 0, BtfCause::NotZero),
+        Word::Int => (int_is_wrong(record), BtfCause::IntWord),
+        Word::Linkage => (word > 2, BtfCause::Linkage),
+        Word::Component => (component_is_wrong(types, record), BtfCause::Component),
+        Word::Offset => (member_is_out(record, j), BtfCause::MemberPlace),
+        Word::Any => return,
+    };
+    faults.note(is_wrong, record.place(j), cause);
 }
 
 /// The faults of the fields of all records.
