@@ -6,14 +6,7 @@ use crate::{
 };
 use bumpalo::Bump;
 use std::alloc::{AllocError, Allocator, Global};
-use std::fmt::Debug;
-use std::process::Abort;
 use std::test::Fail;
-
-/// Ends the test if a value isn't the expected one, and names the case.
-fn equal<T: PartialEq + Debug>(rt: &impl Abort, value: &T, wanted: &T, case: &impl Debug) {
-    assert_eq!(rt; value, wanted, "{case:?}");
-}
 
 /// A 16- or 32-bit value, or two of the latter.
 #[derive(Clone, Copy, Debug, PartialEq, Eq)]
@@ -74,26 +67,23 @@ fn read(order: Order, bytes: &[u8], pos: usize, like: Word) -> Option<Word> {
     }
 }
 
-#[test]
-fn words_are_read_and_written_in_both_orders(rt: HostRuntime) -> Result<(), Fail> {
-    for row in WORDS {
-        let mut out = HELD.to_vec(rt.alloc())?;
-        push(&mut out, row.order, row.word)?;
-        let appended = (out.starts_with(HELD), out.get(HELD.len()..));
-        equal(&rt, &appended, &(true, Some(row.bytes)), &row);
-        let found = read(row.order, &out, HELD.len(), row.word);
-        equal(&rt, &found, &Some(row.word), &row);
-    }
-    Ok(())
+/// Appends the value to the first `held` bytes of [`HELD`], and reads it there.
+fn is_written_and_read(alloc: Global, held: usize, row: &WordRow) -> Result<bool, AllocError> {
+    let before = HELD.get(..held).unwrap_or_default();
+    let mut out = before.to_vec(alloc)?;
+    push(&mut out, row.order, row.word)?;
+    let found = read(row.order, &out, held, row.word);
+    Ok(out.strip_prefix(before) == Some(row.bytes) && found == Some(row.word))
 }
 
 #[test]
-fn words_are_read_and_written_after_other_bytes(rt: HostRuntime) -> Result<(), Fail> {
-    let mut out = [1].to_vec(rt.alloc())?;
-    push16(&mut out, Order::Big, 0x0203)?;
-    push32(&mut out, Order::Little, 0x0405_0607)?;
-    let bytes: &[u8] = b"\x01\x02\x03\x07\x06\x05\x04";
-    equal(&rt, &out.as_slice(), &bytes, &"two words");
+fn words_are_read_and_written_in_both_orders(rt: HostRuntime) -> Result<(), Fail> {
+    for row in &WORDS {
+        for held in 0..=HELD.len() {
+            let is_right = is_written_and_read(rt.alloc(), held, row)?;
+            assert!(rt; is_right, "{row:?} after {held} bytes");
+        }
+    }
     Ok(())
 }
 
@@ -120,15 +110,22 @@ const SLOTS: [SlotRow; 6] = [
     SlotRow { slot: Slot { opcode: 0, dst: 0, src: 15, off: -0x8000, imm: -0x8000_0000 }, little: *b"\0\xf0\0\x80\0\0\0\x80", big: *b"\0\x0f\x80\0\x80\0\0\0" },
 ];
 
+/// Whether the slot has these bytes in an order, and these in the other one.
+fn is_spelled(order: Order, slot: Slot, bytes: &[u8; 8], other: &[u8; 8]) -> bool {
+    slot_of(order, bytes) == slot && slot_bytes(order, slot) == *bytes && swapped(bytes) == *other
+}
+
 #[test]
 fn slots_are_read_and_written_in_both_orders(rt: HostRuntime) {
     for row in &SLOTS {
-        for (order, bytes) in [(Order::Little, row.little), (Order::Big, row.big)] {
-            let found = (slot_of(order, &bytes), slot_bytes(order, row.slot));
-            equal(&rt, &found, &(row.slot, bytes), &(order, row));
-        }
-        let found = (swapped(&row.big), swapped(&row.little));
-        equal(&rt, &found, &(row.little, row.big), row);
+        assert!(rt;
+            is_spelled(Order::Little, row.slot, &row.little, &row.big),
+            "{row:?}"
+        );
+        assert!(rt;
+            is_spelled(Order::Big, row.slot, &row.big, &row.little),
+            "{row:?}"
+        );
     }
 }
 
@@ -138,32 +135,26 @@ fn slots_are_swapped_in_place(rt: HostRuntime) {
     let mut bytes = *b"\x18\x01\0\0\x88\x77\x66\x55\0\0\0\0\x44\x33\x22\x11\xbf\x21\x01";
     let wanted = *b"\x18\x10\0\0\x55\x66\x77\x88\0\0\0\0\x11\x22\x33\x44\xbf\x21\x01";
     swap_slots(&mut bytes);
-    equal(&rt, &bytes, &wanted, &"a wide load");
+    assert_eq!(rt; bytes, wanted);
 }
 
 #[test]
-fn orders_by_name(rt: HostRuntime) -> Result<(), Fail> {
+fn orders_have_their_names(rt: HostRuntime) -> Result<(), Fail> {
     for (order, name) in [(Order::Little, "little"), (Order::Big, "big")] {
-        equal(
-            &rt,
-            &format!(in rt.alloc(); "{order}")?.as_str(),
-            &name,
-            &order,
-        );
-        equal(&rt, &name.parse::<Order>(), &Ok(order), &order);
+        let text = format!(in rt.alloc(); "{order}")?;
+        assert!(rt; text.as_str() == name, "{text}");
+        assert!(rt; name.parse() == Ok(order), "{name}");
     }
-    equal(
-        &rt,
-        &"Big".parse::<Order>(),
-        &Err(ParseOrderError),
-        &"a capital",
-    );
+    Ok(())
+}
+
+#[test]
+fn other_names_are_refused(rt: HostRuntime) -> Result<(), Fail> {
+    assert!(rt; "Big".parse::<Order>() == Err(ParseOrderError));
     let text = format!(in rt.alloc(); "{ParseOrderError}")?;
-    equal(
-        &rt,
-        &text.as_str(),
-        &"the byte order is neither `little` nor `big`",
-        &"the error",
+    assert!(rt;
+        text.as_str() == "the byte order is neither `little` nor `big`",
+        "{text}"
     );
     Ok(())
 }
@@ -181,7 +172,6 @@ fn arena(alloc: Global, room: usize) -> Result<Bump<Global>, AllocError> {
 }
 
 /// The result of appending a value to `held` bytes in an arena.
-#[derive(Clone, Copy, Debug, PartialEq, Eq)]
 enum Appended {
     /// The held bytes already don't fit into the arena.
     NoRoom,
@@ -193,7 +183,7 @@ enum Appended {
     Changed,
 }
 
-fn append(bump: &Bump<Global>, held: &[u8], row: WordRow) -> Appended {
+fn append(bump: &Bump<Global>, held: &[u8], row: &WordRow) -> Appended {
     let Ok(mut out) = Vec::from_slice(bump, held) else {
         return Appended::NoRoom;
     };
@@ -217,7 +207,7 @@ struct Ends {
 }
 
 /// Appends a value to `held` bytes in arenas of each size, from 0 to more than enough.
-fn count_ends(alloc: Global, held: &[u8], row: WordRow) -> Result<Ends, AllocError> {
+fn count_ends(alloc: Global, held: &[u8], row: &WordRow) -> Result<Ends, AllocError> {
     let mut ends = Ends::default();
     for room in 0..=64usize {
         let bump = arena(alloc, room)?;
@@ -234,11 +224,11 @@ fn count_ends(alloc: Global, held: &[u8], row: WordRow) -> Result<Ends, AllocErr
 /// The value needs space next to what is held, so each smaller arena refuses it.
 #[test]
 fn a_refused_growth_changes_nothing(rt: HostRuntime) -> Result<(), Fail> {
-    for row in WORDS {
+    for row in &WORDS {
         for held in 0..=HELD.len() {
             let ends = count_ends(rt.alloc(), &HELD[..held], row)?;
-            let right = ends.changed == 0 && ends.unchanged >= row.bytes.len() && ends.whole > 0;
-            equal(&rt, &right, &true, &(row, held, ends));
+            let is_right = ends.changed == 0 && ends.unchanged >= row.bytes.len() && ends.whole > 0;
+            assert!(rt; is_right, "{row:?} after {held} bytes: {ends:?}");
         }
     }
     Ok(())
