@@ -1,34 +1,38 @@
-//! The conformance groups of files, from their bytes and from their instructions.
+//! The conformance groups or the faults of files, from their bytes and from their instructions.
 
-use super::equal;
-use super::memory::large;
+use super::holds;
 use super::rows::in_order;
 use crate::{
-    Group, GroupSet, InsnError, Order, SlotCause, SlotFault, decode_insns, groups_in, groups_of,
+    Group, GroupSet, Insn, InsnError, Order, SlotCause, SlotFault, decode_insns, groups_in,
+    groups_of,
 };
 use std::alloc::{AllocError, Global};
 use std::process::Abort;
 use std::test::Fail;
 
-/// The little-endian bytes of the instructions of a file, and the groups of the file (RFC 9669 section
-/// 2.4) or its fault.
-#[derive(Clone, Copy, Debug)]
+/// The number of exits with which a file begins, the little-endian bytes of the instructions after them, and the groups of the file
+/// (RFC 9669 section 2.4) or its fault.
+#[derive(Clone, Copy)]
 struct FileRow {
     what: &'static str,
+    exits: usize,
     insns: &'static [&'static [u8]],
     answer: Result<&'static [Group], SlotFault>,
 }
 
 macro_rules! row {
-    ($what:literal: $($insn:literal),* => $($group:ident),*) => {
-        FileRow { what: $what, insns: &[$($insn),*], answer: Ok(&[$(Group::$group),*]) }
+    ($what:literal: $($insn:literal),* => $($group:ident),*) => { row!(0, $what: $($insn),* => $($group),*) };
+    ($exits:literal, $what:literal: $($insn:literal),* => $($group:ident),*) => {
+        FileRow { what: $what, exits: $exits, insns: &[$($insn),*], answer: Ok(&[$(Group::$group),*]) }
     };
 }
 
 macro_rules! faulty {
-    ($what:literal: $($insn:literal),* => $pos:literal, $cause:ident) => {
+    ($what:literal: $($insn:literal),* => $pos:literal, $cause:ident) => { faulty!(0, $what: $($insn),* => $pos, $cause) };
+    ($exits:literal, $what:literal: $($insn:literal),* => $pos:literal, $cause:ident) => {
         FileRow {
             what: $what,
+            exits: $exits,
             insns: &[$($insn),*],
             answer: Err(SlotFault { pos: $pos, cause: SlotCause::$cause }),
         }
@@ -83,6 +87,7 @@ static MIXED: &[FileRow] = &[
 
 #[rattlefmt::skip]
 static FAULTY: &[FileRow] = &[
+    faulty!("a source of an immediate": b"\x04\x10\0\0\x05\0\0\0" => 1, Src),
     faulty!("a byte after an exit": b"\x95\0\0\0\0\0\0\0", b"\x95" => 8, Truncated),
     faulty!("a wide load's first slot after an exit": b"\x95\0\0\0\0\0\0\0", b"\x18\x01\0\0\0\0\0\0" => 16, Truncated),
     faulty!("an opcode after a wide load": b"\x18\x01\0\0\0\0\0\0\0\0\0\0\0\0\0\0", b"\xff\0\0\0\0\0\0\0" => 16, Opcode),
@@ -93,16 +98,34 @@ static FAULTY: &[FileRow] = &[
     faulty!("an exit with an immediate after an exit": b"\x95\0\0\0\0\0\0\0", b"\x95\0\0\0\x01\0\0\0" => 12, Imm),
     faulty!("a reserved word after an exit": b"\x95\0\0\0\0\0\0\0", b"\x18\x01\0\0\0\0\0\0\0\0\0\x01\0\0\0\0" => 16, Reserved),
     faulty!("a next immediate after an exit": b"\x95\0\0\0\0\0\0\0", b"\x18\x11\0\0\x03\0\0\0\0\0\0\0\x01\0\0\0" => 20, NextImm),
+    faulty!("the first of two": b"\x95\0\0\0\x01\0\0\0", b"\xff\0\0\0\0\0\0\0" => 4, Imm),
 ];
 
-/// All of these tables.
-fn files() -> [&'static [FileRow]; 5] {
-    [BASE32, BASE64, OTHER_GROUPS, MIXED, FAULTY]
+/// Files of 4 MiB. The program decodes the largest in `tests/process/limits.py`.
+#[rattlefmt::skip]
+static LARGE: [FileRow; 3] = [
+    row!(524_288, "exits only":  => Base32),
+    row!(524_287, "a packet load at the end": b"\x48\x30\0\0\x04\0\0\0" => Base32, Packet),
+    faulty!(524_287, "half of a wide load at the end": b"\x18\x01\0\0\0\0\0\0" => 4_194_304, Truncated),
+];
+
+/// The tables of groups, each named here only: a function that names a table is proved with all of it.
+fn files() -> [&'static [FileRow]; 4] {
+    [BASE32, BASE64, OTHER_GROUPS, MIXED]
+}
+
+/// The bytes of some exits, which are the same in both byte orders.
+fn exits(alloc: Global, count: usize) -> Result<Vec<u8>, AllocError> {
+    let mut bytes = Vec::new(alloc);
+    for _ in 0..count {
+        bytes.extend_from_slice(b"\x95\0\0\0\0\0\0\0")?;
+    }
+    Ok(bytes)
 }
 
 /// The bytes of a row in a byte order.
 fn file_of(alloc: Global, order: Order, row: &FileRow) -> Result<Vec<u8>, AllocError> {
-    let mut bytes = Vec::new(alloc);
+    let mut bytes = exits(alloc, row.exits)?;
     for insn in row.insns {
         bytes.extend_from_slice(&in_order(alloc, order, insn)?)?;
     }
@@ -111,9 +134,25 @@ fn file_of(alloc: Global, order: Order, row: &FileRow) -> Result<Vec<u8>, AllocE
 
 /// Whether a set has these groups and no other.
 fn has_all(set: GroupSet, groups: &[Group]) -> bool {
-    Group::ALL
-        .iter()
-        .all(|group| set.has(*group) == groups.contains(group))
+    for group in Group::ALL {
+        if set.has(group) != groups.contains(&group) {
+            return false;
+        }
+    }
+    true
+}
+
+#[test]
+fn sets_are_made_of_groups(rt: HostRuntime) {
+    let groups: &[Group] = &[Group::Packet, Group::Base64];
+    let set = GroupSet::from(groups);
+    let mut listed = set.into_iter();
+    let is_listed = listed.next() == Some(Group::Base32)
+        && listed.next() == Some(Group::Base64)
+        && listed.next() == Some(Group::Packet)
+        && listed.next().is_none();
+    let sizes = (set.len(), set.is_empty(), GroupSet::default().is_empty());
+    assert!(rt; is_listed && sizes == (3, false, true));
 }
 
 /// Whether a call on a file returns what the row says.
@@ -125,24 +164,48 @@ fn is_answer(found: Result<GroupSet, SlotFault>, row: &FileRow) -> bool {
     }
 }
 
-/// Whether the list of the instructions of a file has the groups that the row says.
-fn is_listed(alloc: Global, order: Order, bytes: &[u8], row: &FileRow) -> bool {
+/// Whether the instructions of a file begin with its exits, and are as many and of the groups that the row says.
+fn is_list(insns: &[Insn], row: &FileRow) -> bool {
+    for insn in insns.iter().take(row.exits) {
+        if *insn != Insn::Exit {
+            return false;
+        }
+    }
+    insns.len() == row.exits.saturating_add(row.insns.len()) && is_answer(Ok(groups_of(insns)), row)
+}
+
+/// Whether the instructions of a file are decoded as the row says, or its fault is found.
+fn is_decoded(alloc: Global, order: Order, bytes: &[u8], row: &FileRow) -> bool {
     match decode_insns(alloc, order, bytes) {
-        Ok(insns) => is_answer(Ok(groups_of(&insns)), row),
+        Ok(insns) => is_list(&insns, row),
         Err(InsnError::Fault(fault)) => is_answer(Err(fault), row),
         Err(InsnError::Memory) => false,
     }
 }
 
-/// Checks the groups of files in both orders.
-fn check_files(rt: &impl Abort, alloc: Global, rows: &[FileRow]) -> Result<(), Fail> {
+/// Checks a file in a byte order.
+fn check_file(
+    rt: &impl Abort,
+    alloc: Global,
+    order: Order,
+    row: &FileRow,
+) -> Result<(), AllocError> {
+    let bytes = file_of(alloc, order, row)?;
+    let is_found = is_answer(groups_in(order, &bytes), row);
+    holds(
+        rt,
+        is_found && is_decoded(alloc, order, &bytes, row),
+        order,
+        row.what,
+    );
+    Ok(())
+}
+
+/// Checks files in both byte orders.
+fn check_files(rt: &impl Abort, alloc: Global, rows: &[FileRow]) -> Result<(), AllocError> {
     for row in rows {
-        for order in [Order::Little, Order::Big] {
-            let bytes = file_of(alloc, order, row)?;
-            let is_found = is_answer(groups_in(order, &bytes), row);
-            let is_listed = is_listed(alloc, order, &bytes, row);
-            equal(rt, &(is_found, is_listed), &(true, true), &(order, row));
-        }
+        check_file(rt, alloc, Order::Little, row)?;
+        check_file(rt, alloc, Order::Big, row)?;
     }
     Ok(())
 }
@@ -155,19 +218,16 @@ fn groups_of_files_are_found_in_both_orders(rt: HostRuntime) -> Result<(), Fail>
     Ok(())
 }
 
-/// The last slot of a file of 4 MiB whose other slots are exits, and what is found.
-static LARGE: [FileRow; 2] = [
-    row!("a packet load at the end": b"\x48\x30\0\0\x04\0\0\0" => Base32, Packet),
-    faulty!("half of a wide load at the end": b"\x18\x01\0\0\0\0\0\0" => 4_194_304, Truncated),
-];
+#[test]
+fn faults_of_files_count_from_the_first_byte(rt: HostRuntime) -> Result<(), Fail> {
+    check_files(&rt, rt.alloc(), FAULTY)?;
+    Ok(())
+}
 
 #[test]
-fn groups_of_large_files_are_found(rt: HostRuntime) -> Result<(), Fail> {
+fn large_files_are_decoded(rt: HostRuntime) -> Result<(), Fail> {
     for row in &LARGE {
-        let last = file_of(rt.alloc(), Order::Little, row)?;
-        let bytes = large(rt.alloc(), &last)?;
-        let is_found = is_answer(groups_in(Order::Little, &bytes), row);
-        equal(&rt, &is_found, &true, row);
+        check_file(&rt, rt.alloc(), Order::Little, row)?;
     }
     Ok(())
 }

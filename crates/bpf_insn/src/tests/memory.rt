@@ -1,6 +1,5 @@
-//! Files that are decoded with each allocation refused in turn, and large ones with ample memory.
+//! Files that are decoded with each allocation refused in turn.
 
-use super::equal;
 use crate::{Insn, InsnError, Order, SlotCause, SlotFault, decode_insns};
 use bumpalo::Bump;
 use std::alloc::{AllocError, Global};
@@ -38,125 +37,60 @@ fn arena(alloc: Global, room: usize) -> Result<Bump<Global>, AllocError> {
     Ok(bump)
 }
 
-/// The result for the first bytes of the file in an arena.
-#[derive(Clone, Copy, Debug, PartialEq, Eq)]
-enum Decoded {
-    /// All of its instructions.
-    Whole,
-    /// Its fault, with the right offset and cause.
-    Faulty,
-    /// Out of memory.
-    Refused,
-    /// Another answer.
-    Wrong,
+/// The number of instructions at the beginning of the file, whether they need more memory than those of the row before, and their fault.
+#[derive(Clone, Copy)]
+struct RoomRow {
+    insns: usize,
+    grows: bool,
+    fault: Option<SlotFault>,
 }
 
-fn outcome(bump: &Bump<Global>, bytes: &[u8]) -> Decoded {
-    let fault = SlotFault {
-        pos: 73,
-        cause: SlotCause::Src,
-    };
-    match decode_insns(bump, Order::Little, bytes) {
-        Ok(insns) if Some(insns.as_slice()) == JUMPS.get(..bytes.len() / 8) => Decoded::Whole,
-        Err(InsnError::Fault(found)) if found == fault => Decoded::Faulty,
-        Err(InsnError::Memory) => Decoded::Refused,
-        _ => Decoded::Wrong,
+#[rattlefmt::skip]
+const ROOMS: [RoomRow; 8] = [
+    RoomRow { insns: 1, grows: true, fault: None },
+    RoomRow { insns: 2, grows: false, fault: None },
+    RoomRow { insns: 4, grows: false, fault: None },
+    RoomRow { insns: 5, grows: true, fault: None },
+    RoomRow { insns: 6, grows: false, fault: None },
+    RoomRow { insns: 8, grows: false, fault: None },
+    RoomRow { insns: 9, grows: true, fault: None },
+    RoomRow { insns: 10, grows: false, fault: Some(SlotFault { pos: 73, cause: SlotCause::Src }) },
+];
+
+/// Whether the first bytes of the file are decoded in an arena as the row says. `None` if memory runs out.
+fn is_decoded(bump: &Bump<Global>, row: RoomRow) -> Option<bool> {
+    match decode_insns(bump, Order::Little, &FILE[..8 * row.insns.min(10)]) {
+        Ok(insns) => Some(row.fault.is_none() && &JUMPS[..row.insns.min(9)] == insns.as_slice()),
+        Err(InsnError::Fault(fault)) => Some(row.fault == Some(fault)),
+        Err(InsnError::Memory) => None,
     }
 }
 
-/// The smallest arena that the first bytes of the file need. In each smaller one they run out of memory.
-fn least_room(alloc: Global, bytes: &[u8], end: Decoded) -> Result<Option<usize>, AllocError> {
+/// The smallest arena that the row needs. In each smaller one it runs out of memory.
+fn least_room(alloc: Global, row: RoomRow) -> Result<Option<usize>, AllocError> {
     let mut least = None;
     for room in 0..=ROOM {
-        let found = outcome(&arena(alloc, room)?, bytes);
-        match least {
-            None if found == end => least = Some(room),
-            None if found == Decoded::Refused => {}
-            Some(_) if found == end => {}
+        match is_decoded(&arena(alloc, room)?, row) {
+            None if least.is_none() => {}
+            Some(true) => least = least.or(Some(room)),
             _ => return Ok(None),
         }
     }
     Ok(least)
 }
 
-/// A file, and whether it needs more memory than the one before it.
-#[derive(Clone, Copy, Debug)]
-struct RoomRow {
-    insns: usize,
-    grows: bool,
-    end: Decoded,
-}
-
-#[rattlefmt::skip]
-const ROOMS: [RoomRow; 8] = [
-    RoomRow { insns: 1, grows: true, end: Decoded::Whole },
-    RoomRow { insns: 2, grows: false, end: Decoded::Whole },
-    RoomRow { insns: 4, grows: false, end: Decoded::Whole },
-    RoomRow { insns: 5, grows: true, end: Decoded::Whole },
-    RoomRow { insns: 6, grows: false, end: Decoded::Whole },
-    RoomRow { insns: 8, grows: false, end: Decoded::Whole },
-    RoomRow { insns: 9, grows: true, end: Decoded::Whole },
-    RoomRow { insns: 10, grows: false, end: Decoded::Faulty },
-];
-
 #[test]
 fn each_growth_is_refused(rt: HostRuntime) -> Result<(), Fail> {
     let mut before = 0;
     for row in ROOMS {
-        let room = least_room(rt.alloc(), &FILE[..8 * row.insns], row.end)?;
-        let right = room.is_some_and(|room| if row.grows {
+        let room = least_room(rt.alloc(), row)?.unwrap_or(0);
+        let is_right = if row.grows {
             room > before
         } else {
             room == before
-        });
-        equal(&rt, &right, &true, &(row, room, before));
-        before = room.unwrap_or(before);
-    }
-    Ok(())
-}
-
-/// The number of slots of the large files, which are 4 MiB. The program decodes the largest in `tests/process/limits.py`.
-const COUNT: usize = 524_288;
-
-/// A file of exits up to its last slot, and the number of its instructions or its fault.
-#[derive(Clone, Copy, Debug)]
-struct LargeRow {
-    last: &'static [u8],
-    answer: Result<usize, SlotFault>,
-}
-
-#[rattlefmt::skip]
-static LARGE: [LargeRow; 2] = [
-    LargeRow { last: b"\x95\0\0\0\0\0\0\0", answer: Ok(524_288) },
-    LargeRow { last: b"\x18\x01\0\0\0\0\0\0", answer: Err(SlotFault { pos: 4_194_304, cause: SlotCause::Truncated }) },
-];
-
-/// The bytes of a large file.
-pub(super) fn large(alloc: Global, last: &[u8]) -> Result<Vec<u8>, AllocError> {
-    let mut bytes = Vec::new(alloc);
-    for _ in 1..COUNT {
-        bytes.extend_from_slice(b"\x95\0\0\0\0\0\0\0")?;
-    }
-    bytes.extend_from_slice(last)?;
-    Ok(bytes)
-}
-
-/// Whether the call returns what the row of a large file says.
-fn is_decoded(alloc: Global, row: &LargeRow) -> Result<bool, AllocError> {
-    let bytes = large(alloc, row.last)?;
-    Ok(match decode_insns(alloc, Order::Little, &bytes) {
-        Ok(insns) => {
-            Ok(insns.len()) == row.answer && insns.iter().all(|insn| *insn == Insn::Exit)
-        }
-        Err(InsnError::Fault(fault)) => Err(fault) == row.answer,
-        Err(InsnError::Memory) => false,
-    })
-}
-
-#[test]
-fn large_files_are_decoded(rt: HostRuntime) -> Result<(), Fail> {
-    for row in &LARGE {
-        equal(&rt, &is_decoded(rt.alloc(), row)?, &true, row);
+        };
+        assert!(rt; is_right, "{}", row.insns);
+        before = room;
     }
     Ok(())
 }

@@ -1,6 +1,6 @@
 //! What each call returns: for the bytes of every form of instruction, for faulty bytes, and for files.
 
-use super::equal;
+use super::holds;
 use super::texts::shows;
 use crate::{
     Group, Insn, InsnError, InsnFront, Order, Reg, SlotCause, SlotFault, decode_insns, group_of,
@@ -10,27 +10,21 @@ use std::alloc::{AllocError, Global};
 use std::process::Abort;
 use std::test::Fail;
 
-/// The little-endian bytes of an instruction, the instruction by its `Debug` text, and its group. A static can't hold
-/// a register, whose number has a bound.
-#[derive(Clone, Copy, Debug)]
-struct InsnRow {
-    little: &'static [u8],
-    insn: &'static str,
-    group: Group,
-}
-
-/// Faulty bytes, and the offset and the cause of their first fault.
-#[derive(Clone, Copy, Debug)]
-struct FaultRow {
+/// The little-endian bytes of an instruction, what `Debug` shows of it, and its group; or faulty bytes, what is wrong with them,
+/// and their first fault. A static can't hold a register, whose number has a bound.
+#[derive(Clone, Copy)]
+pub(super) struct Row {
     what: &'static str,
     little: &'static [u8],
-    pos: u64,
-    cause: SlotCause,
+    answer: Result<Group, SlotFault>,
 }
+
+/// Rows in pieces, as a proof takes longer for the same rows in one: the time of a piece is the square of its number of strings.
+type Table = [&'static [Row]; 8];
 
 macro_rules! row {
     ($little:literal => $insn:literal, $group:ident) => {
-        InsnRow { little: $little, insn: $insn, group: Group::$group }
+        Row { what: $insn, little: $little, answer: Ok(Group::$group) }
     };
 }
 
@@ -65,51 +59,78 @@ fn is_shown(alloc: Global, insn: Insn, text: &str) -> Result<bool, AllocError> {
 /// Whether an instruction has these bytes, and only zeros after them.
 fn is_spelled(order: Order, insn: Insn, bytes: &[u8]) -> bool {
     let (spelled, len) = insn_bytes(order, insn);
-    let is_filled = spelled[len..].iter().all(|byte| *byte == 0);
-    &spelled[..len] == bytes && is_filled
+    &spelled[..len] == bytes && spelled[len..] == [0; 16][len..]
 }
 
-/// Whether each call returns what the row says of these bytes.
-fn is_right(alloc: Global, order: Order, bytes: &[u8], row: &InsnRow) -> Result<bool, AllocError> {
+/// Whether each call returns this instruction, of this group, for these bytes.
+fn is_read(
+    alloc: Global,
+    order: Order,
+    bytes: &[u8],
+    (text, group): (&str, Group),
+) -> Result<bool, AllocError> {
     let Ok(found) = read_insn(order, bytes) else {
         return Ok(false);
     };
     let (insn, len) = found;
     let has_len = len == bytes.len() && insn_len(order, bytes) == Ok(len);
-    let is_spelled = is_spelled(order, insn, bytes) && group_of(insn) == row.group;
-    Ok(has_len && is_spelled && is_shown(alloc, insn, row.insn)?)
+    let is_spelled = is_spelled(order, insn, bytes) && group_of(insn) == group;
+    Ok(has_len && is_spelled && is_shown(alloc, insn, text)?)
 }
 
-/// Checks rows in both orders.
-fn check_rows(rt: &impl Abort, alloc: Global, rows: &[InsnRow]) -> Result<(), AllocError> {
+/// Whether both calls find this fault in these bytes.
+fn has_fault(order: Order, bytes: &[u8], fault: SlotFault) -> bool {
+    read_insn(order, bytes).err() == Some(fault) && insn_len(order, bytes) == Err(fault)
+}
+
+/// Whether each call returns what the row says of these bytes.
+fn is_right(alloc: Global, order: Order, bytes: &[u8], row: &Row) -> Result<bool, AllocError> {
+    match row.answer {
+        Ok(group) => is_read(alloc, order, bytes, (row.what, group)),
+        Err(fault) => Ok(has_fault(order, bytes, fault)),
+    }
+}
+
+/// Checks rows in a byte order.
+fn check_rows(
+    rt: &impl Abort,
+    alloc: Global,
+    order: Order,
+    rows: &[Row],
+) -> Result<(), AllocError> {
     for row in rows {
-        for order in [Order::Little, Order::Big] {
-            let bytes = in_order(alloc, order, row.little)?;
-            let is_right = is_right(alloc, order, &bytes, row)?;
-            equal(rt, &is_right, &true, &(order, row));
-        }
+        let bytes = in_order(alloc, order, row.little)?;
+        holds(rt, is_right(alloc, order, &bytes, row)?, order, row.what);
     }
     Ok(())
 }
 
-/// Checks the rows of several tables in both orders.
-fn check_insns(rt: &impl Abort, alloc: Global, tables: &[&[InsnRow]]) -> Result<(), AllocError> {
-    for rows in tables {
-        check_rows(rt, alloc, rows)?;
+/// Checks the rows of a table in both orders.
+fn check_table(rt: &impl Abort, alloc: Global, table: &Table) -> Result<(), AllocError> {
+    for rows in table {
+        check_rows(rt, alloc, Order::Little, rows)?;
+        check_rows(rt, alloc, Order::Big, rows)?;
     }
     Ok(())
 }
 
 #[test]
-fn instructions_are_read_and_written_in_both_orders(rt: HostRuntime) -> Result<(), Fail> {
-    check_insns(&rt, rt.alloc(), &arithmetic::arithmetic())?;
-    check_insns(&rt, rt.alloc(), &jumps::jumps())?;
-    check_insns(&rt, rt.alloc(), &load_store::load_store())?;
+fn instructions_and_faults_are_found_in_both_orders(rt: HostRuntime) -> Result<(), Fail> {
+    for table in [
+        arithmetic::arithmetic(),
+        jumps::jumps(),
+        load_store::load_store(),
+        faults::first_fields(),
+        faults::middle_fields(),
+        faults::last_fields(),
+    ] {
+        check_table(&rt, rt.alloc(), &table)?;
+    }
     Ok(())
 }
 
 /// The bytes of one instruction in both orders, and the instruction by its `Debug` text.
-#[derive(Clone, Copy, Debug)]
+#[derive(Clone, Copy)]
 struct OrderRow {
     little: &'static [u8],
     big: &'static [u8],
@@ -127,13 +148,19 @@ static ORDERS: [OrderRow; 7] = [
     OrderRow { little: b"\x18\x31\0\0\x03\0\0\0\0\0\0\0\x01\0\0\0", big: b"\x18\x13\0\0\0\0\0\x03\0\0\0\0\0\0\0\x01", insn: "Wide { dst: Reg { number: 1 }, what: VarAddr(3, 1) }" },
 ];
 
-/// Whether a file is decoded to one instruction, which `Debug` shows as this text.
-fn has_one_insn(alloc: Global, order: Order, bytes: &[u8], text: &str) -> Result<bool, AllocError> {
+/// Whether the bytes of a row in this order are decoded to one instruction, which `Debug` shows as its text.
+fn is_one_insn(
+    alloc: Global,
+    order: Order,
+    bytes: &[u8],
+    row: &OrderRow,
+) -> Result<bool, AllocError> {
+    let is_turned = in_order(alloc, order, row.little)?.as_slice() == bytes;
     let Ok(insns) = decode_insns(alloc, order, bytes) else {
         return Ok(false);
     };
     match insns.first() {
-        Some(insn) if insns.len() == 1 => is_shown(alloc, *insn, text),
+        Some(insn) if is_turned && insns.len() == 1 => is_shown(alloc, *insn, row.insn),
         _ => Ok(false),
     }
 }
@@ -141,48 +168,11 @@ fn has_one_insn(alloc: Global, order: Order, bytes: &[u8], text: &str) -> Result
 #[test]
 fn files_of_one_instruction_are_decoded_in_both_orders(rt: HostRuntime) -> Result<(), Fail> {
     for row in &ORDERS {
-        for (order, bytes) in [(Order::Little, row.little), (Order::Big, row.big)] {
-            let is_turned = in_order(rt.alloc(), order, row.little)?.as_slice() == bytes;
-            let is_right = has_one_insn(rt.alloc(), order, bytes, row.insn)?;
-            equal(&rt, &(is_right, is_turned), &(true, true), &(order, row));
-        }
+        let is_right = is_one_insn(rt.alloc(), Order::Little, row.little, row)?;
+        holds(&rt, is_right, Order::Little, row.insn);
+        let is_right = is_one_insn(rt.alloc(), Order::Big, row.big, row)?;
+        holds(&rt, is_right, Order::Big, row.insn);
     }
-    Ok(())
-}
-
-/// Whether both calls find the fault of a row in these bytes.
-fn has_fault(order: Order, bytes: &[u8], row: &FaultRow) -> bool {
-    let fault = Some(SlotFault {
-        pos: row.pos,
-        cause: row.cause,
-    });
-    read_insn(order, bytes).err() == fault && insn_len(order, bytes).err() == fault
-}
-
-/// Checks the faults of rows in both orders.
-fn check_faults(rt: &impl Abort, alloc: Global, rows: &[FaultRow]) -> Result<(), AllocError> {
-    for row in rows {
-        for order in [Order::Little, Order::Big] {
-            let bytes = in_order(alloc, order, row.little)?;
-            equal(rt, &has_fault(order, &bytes, row), &true, &(order, row));
-        }
-    }
-    Ok(())
-}
-
-/// Checks the faults of the rows of several tables in both orders.
-fn check_tables(rt: &impl Abort, alloc: Global, tables: &[&[FaultRow]]) -> Result<(), AllocError> {
-    for rows in tables {
-        check_faults(rt, alloc, rows)?;
-    }
-    Ok(())
-}
-
-#[test]
-fn first_faults_are_found_in_both_orders(rt: HostRuntime) -> Result<(), Fail> {
-    check_tables(&rt, rt.alloc(), &faults::first_fields())?;
-    check_tables(&rt, rt.alloc(), &faults::middle_fields())?;
-    check_tables(&rt, rt.alloc(), &faults::last_fields())?;
     Ok(())
 }
 
@@ -213,24 +203,21 @@ fn whole_insns(len: usize) -> Option<&'static str> {
     }
 }
 
-#[test]
-fn complete_instructions_of_a_cut_file_are_found(rt: HostRuntime) {
-    for len in 0..=FILE.len() {
-        let (whole, count) = match len {
-            40 => (40, 4),
-            24..=39 => (24, 3),
-            _ => (len / 8 * 8, len as u64 / 8),
-        };
-        let truncated = SlotFault {
-            pos: if len < 32 { 0 } else { 8 },
-            cause: SlotCause::Truncated,
-        };
-        let front = InsnFront {
-            len: whole,
-            count,
-            stop: if len == whole { None } else { Some(truncated) },
-        };
-        equal(&rt, &insn_front(Order::Little, &FILE[..len]), &front, &len);
+/// The first `len` bytes of the file: the length and the number of their complete instructions, and where they are cut.
+fn front_of(len: usize) -> InsnFront {
+    let (whole, count) = match len {
+        40 => (40, 4),
+        24..=39 => (24, 3),
+        _ => (len / 8 * 8, len as u64 / 8),
+    };
+    let truncated = SlotFault {
+        pos: if len < 32 { 0 } else { 8 },
+        cause: SlotCause::Truncated,
+    };
+    InsnFront {
+        len: whole,
+        count,
+        stop: if len == whole { None } else { Some(truncated) },
     }
 }
 
@@ -241,9 +228,10 @@ fn are_shown(alloc: Global, insns: &[Insn], text: Option<&str>) -> Result<bool, 
 }
 
 /// Whether the first bytes of the file are decoded, or refused as truncated in their last slot.
-fn is_cut_right(alloc: Global, len: usize) -> Result<bool, AllocError> {
+fn is_cut_right(alloc: Global, bytes: &[u8]) -> Result<bool, AllocError> {
+    let len = bytes.len();
     let text = whole_insns(len);
-    match decode_insns(alloc, Order::Little, FILE.get(..len).unwrap_or(FILE)) {
+    match decode_insns(alloc, Order::Little, bytes) {
         Ok(insns) => are_shown(alloc, &insns, text),
         Err(InsnError::Fault(fault)) => {
             let is_last = fault.pos == (len - len % 8) as u64;
@@ -256,39 +244,21 @@ fn is_cut_right(alloc: Global, len: usize) -> Result<bool, AllocError> {
 #[test]
 fn a_file_that_is_cut_anywhere_is_decoded_or_refused(rt: HostRuntime) -> Result<(), Fail> {
     for len in 0..=FILE.len() {
-        equal(&rt, &is_cut_right(rt.alloc(), len)?, &true, &len);
+        let is_found = insn_front(Order::Little, &FILE[..len]) == front_of(len);
+        let is_cut_right = is_cut_right(rt.alloc(), &FILE[..len])?;
+        assert!(rt; is_found && is_cut_right, "{len}");
     }
     Ok(())
-}
-
-/// A file, and the offset and the cause of its first fault.
-#[rattlefmt::skip]
-static FILE_FAULTS: [FaultRow; 5] = [
-    FaultRow { what: "a source of an immediate", little: b"\x04\x10\0\0\x05\0\0\0", pos: 1, cause: SlotCause::Src },
-    FaultRow { what: "a source after an exit", little: b"\x95\0\0\0\0\0\0\0\x04\x10\0\0\x05\0\0\0", pos: 9, cause: SlotCause::Src },
-    FaultRow { what: "a reserved word after an exit", little: b"\x95\0\0\0\0\0\0\0\x18\x01\0\0\0\0\0\0\0\0\0\x01\0\0\0\0", pos: 16, cause: SlotCause::Reserved },
-    FaultRow { what: "an opcode after a wide load", little: b"\x18\x01\0\0\0\0\0\0\0\0\0\0\0\0\0\0\xff\0\0\0\0\0\0\0", pos: 16, cause: SlotCause::Opcode },
-    FaultRow { what: "the first of two", little: b"\x95\0\0\0\x01\0\0\0\xff\0\0\0\0\0\0\0", pos: 4, cause: SlotCause::Imm },
-];
-
-#[test]
-fn faults_of_files_count_from_the_first_byte(rt: HostRuntime) {
-    for row in &FILE_FAULTS {
-        let found = decode_insns(rt.alloc(), Order::Little, row.little).err();
-        let fault = SlotFault {
-            pos: row.pos,
-            cause: row.cause,
-        };
-        equal(&rt, &found, &Some(InsnError::Fault(fault)), row);
-    }
 }
 
 #[test]
 fn registers_have_the_numbers_up_to_ten(rt: HostRuntime) {
     for number in 0..=u8::MAX {
-        let found = Reg::new(number).map(Reg::number);
-        let register = if number <= 10 { Some(number) } else { None };
-        equal(&rt, &found, &register, &number);
+        let is_right = match Reg::new(number) {
+            Some(register) => register.number() == number && number <= 10,
+            None => number > 10,
+        };
+        assert!(rt; is_right, "{number}");
     }
 }
 
@@ -305,22 +275,23 @@ const CAUSES: [(SlotCause, &str, &str); 8] = [
     (SlotCause::NextImm, "NextImm", "the immediate of the second slot is not zero, and this kind of wide load has one number only"),
 ];
 
-#[test]
-fn causes_have_these_strings(rt: HostRuntime) -> Result<(), Fail> {
-    for (index, (cause, name, sentence)) in CAUSES.iter().enumerate() {
-        let found = (usize::from(cause.number()), cause.name(), cause.describe());
-        equal(&rt, &found, &(index + 1, *name, *sentence), cause);
-        shows(&rt, rt.alloc(), cause, name)?;
-    }
-    Ok(())
+/// Whether a cause has this number, this name and this sentence, and its name is shown.
+fn has_strings(
+    alloc: Global,
+    cause: SlotCause,
+    number: usize,
+    name: &str,
+    sentence: &str,
+) -> Result<bool, AllocError> {
+    let is_found = cause.name() == name && cause.describe() == sentence;
+    Ok(usize::from(cause.number()) == number && is_found && shows(alloc, &cause, name)?)
 }
 
 #[test]
-fn errors_have_the_names_of_their_variants(rt: HostRuntime) -> Result<(), Fail> {
-    let fault = SlotFault {
-        pos: 0,
-        cause: SlotCause::Opcode,
-    };
-    shows(&rt, rt.alloc(), &InsnError::Fault(fault), "Fault")?;
-    shows(&rt, rt.alloc(), &InsnError::Memory, "Memory")
+fn causes_have_these_strings(rt: HostRuntime) -> Result<(), Fail> {
+    for (index, (cause, name, sentence)) in CAUSES.iter().enumerate() {
+        let has_strings = has_strings(rt.alloc(), *cause, index + 1, name, sentence)?;
+        assert!(rt; has_strings, "{name}");
+    }
+    Ok(())
 }

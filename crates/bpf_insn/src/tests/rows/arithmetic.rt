@@ -1,10 +1,10 @@
 //! Arithmetic and byte swaps (RFC 9669 sections 4.1 and 4.2).
 
-use super::InsnRow;
+use super::{Row, Table};
 use crate::Group;
 
 #[rattlefmt::skip]
-pub(super) fn arithmetic() -> [&'static [InsnRow]; 8] {[&[
+pub(super) fn arithmetic() -> Table {[&[
     row!(b"\x07\x01\0\0\xfe\xff\xff\xff" => "Alu { width: W64, op: Add, dst: Reg { number: 1 }, arg: Imm(-2) }", Base64),
     row!(b"\x0f\x72\0\0\0\0\0\0" => "Alu { width: W64, op: Add, dst: Reg { number: 2 }, arg: Reg(Reg { number: 7 }) }", Base64),
     row!(b"\x04\x03\0\0\0\0\0\x80" => "Alu { width: W32, op: Add, dst: Reg { number: 3 }, arg: Imm(-2147483648) }", Base32),
@@ -25,8 +25,8 @@ pub(super) fn arithmetic() -> [&'static [InsnRow]; 8] {[&[
     row!(b"\x37\x06\x01\0\0\0\0\x80" => "Alu { width: W64, op: Sdiv, dst: Reg { number: 6 }, arg: Imm(-2147483648) }", Divmul64),
     row!(b"\x3f\x07\x01\0\0\0\0\0" => "Alu { width: W64, op: Sdiv, dst: Reg { number: 7 }, arg: Reg(Reg { number: 0 }) }", Divmul64),
     row!(b"\x34\x08\x01\0\0\0\0\0" => "Alu { width: W32, op: Sdiv, dst: Reg { number: 8 }, arg: Imm(0) }", Divmul32),
-], &[
     row!(b"\x3c\x69\x01\0\0\0\0\0" => "Alu { width: W32, op: Sdiv, dst: Reg { number: 9 }, arg: Reg(Reg { number: 6 }) }", Divmul32),
+], &[
     row!(b"\x47\x0a\0\0\x05\0\0\0" => "Alu { width: W64, op: Or, dst: Reg { number: 10 }, arg: Imm(5) }", Base64),
     row!(b"\x4f\x10\0\0\0\0\0\0" => "Alu { width: W64, op: Or, dst: Reg { number: 0 }, arg: Reg(Reg { number: 1 }) }", Base64),
     row!(b"\x44\x01\0\0\xff\xff\xff\x7f" => "Alu { width: W32, op: Or, dst: Reg { number: 1 }, arg: Imm(2147483647) }", Base32),
@@ -36,8 +36,8 @@ pub(super) fn arithmetic() -> [&'static [InsnRow]; 8] {[&[
     row!(b"\x54\x05\0\0\xff\xff\xff\xff" => "Alu { width: W32, op: And, dst: Reg { number: 5 }, arg: Imm(-1) }", Base32),
     row!(b"\x5c\x86\0\0\0\0\0\0" => "Alu { width: W32, op: And, dst: Reg { number: 6 }, arg: Reg(Reg { number: 8 }) }", Base32),
     row!(b"\x67\x07\0\0\xfe\xff\xff\xff" => "Alu { width: W64, op: Lsh, dst: Reg { number: 7 }, arg: Imm(-2) }", Base64),
-], &[
     row!(b"\x6f\x38\0\0\0\0\0\0" => "Alu { width: W64, op: Lsh, dst: Reg { number: 8 }, arg: Reg(Reg { number: 3 }) }", Base64),
+], &[
     row!(b"\x64\x09\0\0\0\0\0\x80" => "Alu { width: W32, op: Lsh, dst: Reg { number: 9 }, arg: Imm(-2147483648) }", Base32),
     row!(b"\x6c\x9a\0\0\0\0\0\0" => "Alu { width: W32, op: Lsh, dst: Reg { number: 10 }, arg: Reg(Reg { number: 9 }) }", Base32),
     row!(b"\x77\0\0\0\0\0\0\0" => "Alu { width: W64, op: Rsh, dst: Reg { number: 0 }, arg: Imm(0) }", Base64),
@@ -47,8 +47,8 @@ pub(super) fn arithmetic() -> [&'static [InsnRow]; 8] {[&[
     row!(b"\x97\x04\0\0\xff\xff\xff\x7f" => "Alu { width: W64, op: Mod, dst: Reg { number: 4 }, arg: Imm(2147483647) }", Divmul64),
     row!(b"\x9f\x55\0\0\0\0\0\0" => "Alu { width: W64, op: Mod, dst: Reg { number: 5 }, arg: Reg(Reg { number: 5 }) }", Divmul64),
     row!(b"\x94\x06\0\0\x03\x02\x01\0" => "Alu { width: W32, op: Mod, dst: Reg { number: 6 }, arg: Imm(66051) }", Divmul32),
-], &[
     row!(b"\x9c\x07\0\0\0\0\0\0" => "Alu { width: W32, op: Mod, dst: Reg { number: 7 }, arg: Reg(Reg { number: 0 }) }", Divmul32),
+], &[
     row!(b"\x97\x08\x01\0\xff\xff\xff\xff" => "Alu { width: W64, op: Smod, dst: Reg { number: 8 }, arg: Imm(-1) }", Divmul64),
     row!(b"\x9f\x69\x01\0\0\0\0\0" => "Alu { width: W64, op: Smod, dst: Reg { number: 9 }, arg: Reg(Reg { number: 6 }) }", Divmul64),
     row!(b"\x94\x0a\x01\0\xfe\xff\xff\xff" => "Alu { width: W32, op: Smod, dst: Reg { number: 10 }, arg: Imm(-2) }", Divmul32),
@@ -57,9 +57,9 @@ pub(super) fn arithmetic() -> [&'static [InsnRow]; 8] {[&[
     row!(b"\xaf\x72\0\0\0\0\0\0" => "Alu { width: W64, op: Xor, dst: Reg { number: 2 }, arg: Reg(Reg { number: 7 }) }", Base64),
     row!(b"\xa4\x03\0\0\0\0\0\0" => "Alu { width: W32, op: Xor, dst: Reg { number: 3 }, arg: Imm(0) }", Base32),
     row!(b"\xac\x24\0\0\0\0\0\0" => "Alu { width: W32, op: Xor, dst: Reg { number: 4 }, arg: Reg(Reg { number: 2 }) }", Base32),
-], &[
     row!(b"\xb7\x05\0\0\x05\0\0\0" => "Alu { width: W64, op: Mov, dst: Reg { number: 5 }, arg: Imm(5) }", Base64),
     row!(b"\xb7\0\0\0\xfe\xff\xff\xff" => "Alu { width: W64, op: Mov, dst: Reg { number: 0 }, arg: Imm(-2) }", Base64),
+], &[
     row!(b"\xb4\x03\0\0\0\0\0\x80" => "Alu { width: W32, op: Mov, dst: Reg { number: 3 }, arg: Imm(-2147483648) }", Base32),
     row!(b"\xbf\x86\0\0\0\0\0\0" => "Alu { width: W64, op: Mov, dst: Reg { number: 6 }, arg: Reg(Reg { number: 8 }) }", Base64),
     row!(b"\xb4\x07\0\0\xff\xff\xff\x7f" => "Alu { width: W32, op: Mov, dst: Reg { number: 7 }, arg: Imm(2147483647) }", Base32),
@@ -68,8 +68,8 @@ pub(super) fn arithmetic() -> [&'static [InsnRow]; 8] {[&[
     row!(b"\xcf\x9a\0\0\0\0\0\0" => "Alu { width: W64, op: Arsh, dst: Reg { number: 10 }, arg: Reg(Reg { number: 9 }) }", Base64),
     row!(b"\xc4\0\0\0\xff\xff\xff\xff" => "Alu { width: W32, op: Arsh, dst: Reg { number: 0 }, arg: Imm(-1) }", Base32),
     row!(b"\xcc\x41\0\0\0\0\0\0" => "Alu { width: W32, op: Arsh, dst: Reg { number: 1 }, arg: Reg(Reg { number: 4 }) }", Base32),
-], &[
     row!(b"\xbc\x72\x08\0\0\0\0\0" => "Movsx { form: W32From8, dst: Reg { number: 2 }, src: Reg { number: 7 } }", Base32),
+], &[
     row!(b"\xbc\xa3\x10\0\0\0\0\0" => "Movsx { form: W32From16, dst: Reg { number: 3 }, src: Reg { number: 10 } }", Base32),
     row!(b"\xbf\x24\x08\0\0\0\0\0" => "Movsx { form: W64From8, dst: Reg { number: 4 }, src: Reg { number: 2 } }", Base64),
     row!(b"\xbf\x12\x08\0\0\0\0\0" => "Movsx { form: W64From8, dst: Reg { number: 2 }, src: Reg { number: 1 } }", Base64),
@@ -78,8 +78,8 @@ pub(super) fn arithmetic() -> [&'static [InsnRow]; 8] {[&[
     row!(b"\x87\x07\0\0\0\0\0\0" => "Neg { width: W64, dst: Reg { number: 7 } }", Base64),
     row!(b"\x84\x08\0\0\0\0\0\0" => "Neg { width: W32, dst: Reg { number: 8 } }", Base32),
     row!(b"\xd4\x09\0\0\x10\0\0\0" => "Swap { kind: Le, bits: B16, dst: Reg { number: 9 } }", Base32),
-], &[
     row!(b"\xd4\x0a\0\0\x20\0\0\0" => "Swap { kind: Le, bits: B32, dst: Reg { number: 10 } }", Base32),
+], &[
     row!(b"\xd4\0\0\0\x40\0\0\0" => "Swap { kind: Le, bits: B64, dst: Reg { number: 0 } }", Base64),
     row!(b"\xdc\x01\0\0\x10\0\0\0" => "Swap { kind: Be, bits: B16, dst: Reg { number: 1 } }", Base32),
     row!(b"\xdc\x02\0\0\x20\0\0\0" => "Swap { kind: Be, bits: B32, dst: Reg { number: 2 } }", Base32),
