@@ -1,6 +1,5 @@
 //! BTF files of a given size.
 
-use bpf_words::{Order, push32};
 use std::alloc::{AllocError, Global};
 
 /// No types, and a string section of one NUL.
@@ -42,53 +41,6 @@ pub struct Shown {
     pub text: Vec<u8>,
 }
 
-/// The little-endian header of a file with sections of these lengths, types first.
-pub fn header(alloc: Global, types: u32, strings: u32) -> Result<Vec<u8>, AllocError> {
-    let mut file = Vec::from_slice(alloc, b"\x9f\xeb\x01\0")?;
-    for number in [24, 0, types, types, strings] {
-        push32(&mut file, Order::Little, number)?;
-    }
-    Ok(file)
-}
-
-/// A file of types without names: the first are CONSTs of void, and the others PTRs to void.
-pub fn nameless(alloc: Global, consts: u32, types: u32) -> Result<Shown, AllocError> {
-    let mut file = header(alloc, types.saturating_mul(12), 1)?;
-    let mut text = Vec::new(alloc);
-    for number in 1..=types {
-        let (info, kind) = if number <= consts {
-            (0x0a00_0000, "const")
-        } else {
-            (0x0200_0000, "ptr")
-        };
-        for word in [0, info, 0] {
-            push32(&mut file, Order::Little, word)?;
-        }
-        let line = format!(in alloc; "[{number}] {kind} type=0\n")?;
-        text.extend_from_slice(line.as_bytes())?;
-    }
-    file.push(0)?;
-    Ok(Shown { file, text })
-}
-
-/// A file with these 32-bit fields as its type section, whose one name is at offset 1 of the strings.
-pub fn named(alloc: Global, words: &[u32], name: &[u8]) -> Result<Vec<u8>, AllocError> {
-    let types = u32::try_from(words.len())
-        .unwrap_or(u32::MAX)
-        .saturating_mul(4);
-    let strings = u32::try_from(name.len())
-        .unwrap_or(u32::MAX)
-        .saturating_add(2);
-    let mut file = header(alloc, types, strings)?;
-    for word in words {
-        push32(&mut file, Order::Little, *word)?;
-    }
-    file.push(0)?;
-    file.extend_from_slice(name)?;
-    file.push(0)?;
-    Ok(file)
-}
-
 /// Parts one after another, each as often as its number says.
 pub fn joined(alloc: Global, parts: &[(&[u8], usize)]) -> Result<Vec<u8>, AllocError> {
     let mut all = Vec::new(alloc);
@@ -98,4 +50,32 @@ pub fn joined(alloc: Global, parts: &[(&[u8], usize)]) -> Result<Vec<u8>, AllocE
         }
     }
     Ok(all)
+}
+
+/// A file of 1,000 types without names: two CONSTs of void, and PTRs to void.
+pub fn nameless(alloc: Global) -> Result<Shown, AllocError> {
+    let file: [(&[u8], usize); 4] = [
+        (
+            b"\x9f\xeb\x01\0\x18\0\0\0\0\0\0\0\xe0\x2e\0\0\xe0\x2e\0\0\x01\0\0\0",
+            1,
+        ),
+        (b"\0\0\0\0\0\0\0\x0a\0\0\0\0", 2),
+        (b"\0\0\0\0\0\0\0\x02\0\0\0\0", 998),
+        (b"\0", 1),
+    ];
+    Ok(Shown {
+        file: joined(alloc, &file)?,
+        text: nameless_text(alloc)?,
+    })
+}
+
+/// Its listing.
+fn nameless_text(alloc: Global) -> Result<Vec<u8>, AllocError> {
+    let mut text = Vec::new(alloc);
+    for number in 1..=1000 {
+        let kind = if number <= 2 { "const" } else { "ptr" };
+        let line = format!(in alloc; "[{number}] {kind} type=0\n")?;
+        text.extend_from_slice(line.as_bytes())?;
+    }
+    Ok(text)
 }

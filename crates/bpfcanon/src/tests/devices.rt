@@ -1,9 +1,9 @@
 //! Devices that fail at each of their calls in turn, for a line of each command.
 
 use super::btf_files::{BIG_INT, INT, NO_TYPES, STRUCT, STRUCT_TEXT};
-use super::expect::{answered, equal, equal_bytes, failed, holds};
-use super::runner::{Pace, run, steady};
-use std::alloc::Global;
+use super::expect::{holds, is_answer, is_failure};
+use super::runner::{Pace, Ran, run, steady};
+use std::alloc::{AllocError, Global};
 use std::process::Abort;
 use std::test::Fail;
 
@@ -33,63 +33,90 @@ pub fn samples() -> [&'static [Sample]; 2] {[&[
     Sample { line: "btf-same --split 25", input: b"\x9f\xeb\x01\0\x18\0\0\0\0\0\0\0\0\0\0\0\0\0\0\0\x01\0\0\0\0\x9f\xeb\x01\0\x18\0\0\0\0\0\0\0\0\0\0\0\0\0\0\0\x01\0\0\0\0", output: b"same\n" },
 ]]}
 
-/// How much of the output is written before read number `fuse` fails, if each read returns one byte.
-fn written_before(sample: Sample, fuse: u64) -> usize {
-    if sample.line.starts_with("insn-canon") {
-        // the 8-byte instructions that were read
-        return (fuse.saturating_sub(1) / 8 * 8) as usize;
-    }
-    0
+/// A device that fails.
+#[derive(Clone, Copy)]
+enum Device {
+    Source,
+    Sink,
 }
 
-// One byte comes at a time, and one more read finds the end.
-fn check_failed_reads(rt: &impl Abort, alloc: Global, sample: Sample) -> Result<(), Fail> {
-    let reads = (sample.input.len() as u64).saturating_add(1);
-    for fuse in 1..=reads {
-        let pace = Pace {
-            read_fuse: Some(fuse),
-            ..steady(1)
+/// How often a command calls a device that moves one byte at a time. One more read finds the end.
+fn calls(sample: Sample, device: Device) -> usize {
+    match device {
+        Device::Source => sample.input.len().saturating_add(1),
+        Device::Sink => sample.output.len(),
+    }
+}
+
+/// How much of the output is written if so many calls of a device succeed, which moves one byte at a time.
+fn written_after(sample: Sample, device: Device, calls: usize) -> usize {
+    match device {
+        Device::Sink => calls,
+        // the 8-byte instructions that were read
+        Device::Source if sample.line.starts_with("insn-canon") => calls / 8 * 8,
+        Device::Source => 0,
+    }
+}
+
+/// Whether a command failed after so many calls of a device that succeeded, or was complete.
+fn is_right(ran: &Ran, sample: Sample, device: Device, done: usize) -> bool {
+    if done == calls(sample, device) {
+        return is_answer(ran, 0, sample.output, b"");
+    }
+    let fault: &[u8] = match device {
+        Device::Source => b"read failed\n",
+        Device::Sink => b"write failed\n",
+    };
+    is_failure(
+        ran,
+        fault,
+        sample.output,
+        written_after(sample, device, done),
+    )
+}
+
+/// Lets a device fail at each of its calls, and at the one after the last.
+fn check_device(
+    rt: &impl Abort,
+    alloc: Global,
+    sample: Sample,
+    device: Device,
+) -> Result<(), AllocError> {
+    for done in 0..=calls(sample, device) {
+        let fuse = Some((done as u64).saturating_add(1));
+        let pace = match device {
+            Device::Source => Pace {
+                read_fuse: fuse,
+                ..steady(1)
+            },
+            Device::Sink => Pace {
+                write_fuse: fuse,
+                ..steady(1)
+            },
         };
         let ran = run(alloc, sample.line, sample.input, pace)?;
-        let written = written_before(sample, fuse);
-        let case = (sample.line, fuse);
-        failed(rt, &ran, b"read failed\n", sample.output, written, &case);
+        holds(
+            rt,
+            is_right(&ran, sample, device, done),
+            (sample.line, done),
+        );
     }
-    let pace = Pace {
-        read_fuse: Some(reads.saturating_add(1)),
-        ..steady(1)
-    };
-    let ran = run(alloc, sample.line, sample.input, pace)?;
-    answered(rt, &ran, 0, sample.output, b"", &sample.line);
     Ok(())
 }
 
-// One byte goes at a time.
-fn check_failed_writes(rt: &impl Abort, alloc: Global, sample: Sample) -> Result<(), Fail> {
-    let writes = sample.output.len();
-    for taken in 0..writes {
-        let pace = Pace {
-            write_fuse: Some((taken as u64).saturating_add(1)),
-            ..steady(1)
-        };
-        let ran = run(alloc, sample.line, sample.input, pace)?;
-        let case = (sample.line, taken);
-        failed(rt, &ran, b"write failed\n", sample.output, taken, &case);
+/// Lets each device of each sample fail.
+fn check_samples(rt: &impl Abort, alloc: Global, rows: &[Sample]) -> Result<(), AllocError> {
+    for sample in rows {
+        check_device(rt, alloc, *sample, Device::Source)?;
+        check_device(rt, alloc, *sample, Device::Sink)?;
     }
-    let pace = Pace {
-        write_fuse: Some((writes as u64).saturating_add(1)),
-        ..steady(1)
-    };
-    let ran = run(alloc, sample.line, sample.input, pace)?;
-    answered(rt, &ran, 0, sample.output, b"", &sample.line);
     Ok(())
 }
 
 #[test]
 fn each_read_and_each_write_fails(rt: HostRuntime) -> Result<(), Fail> {
-    for sample in samples().into_iter().flatten() {
-        check_failed_reads(&rt, rt.alloc(), *sample)?;
-        check_failed_writes(&rt, rt.alloc(), *sample)?;
+    for rows in samples() {
+        check_samples(&rt, rt.alloc(), rows)?;
     }
     Ok(())
 }
@@ -105,10 +132,8 @@ fn the_fault_sink_fails(rt: HostRuntime) -> Result<(), Fail> {
             ..steady(1)
         };
         let ran = run(rt.alloc(), "insn-canon", input, pace)?;
-        equal(&rt, &ran.status, &1, &taken);
-        equal_bytes(&rt, &ran.output, b"\x95\0\0\0\0\0\0\0", &taken);
-        equal(&rt, &ran.faults.len(), &taken, &taken);
-        holds(&rt, line.starts_with(&ran.faults), &taken);
+        let is_right = is_answer(&ran, 1, b"\x95\0\0\0\0\0\0\0", &line[..taken]);
+        holds(&rt, is_right, ("the fault sink", taken));
     }
     Ok(())
 }
@@ -138,8 +163,8 @@ fn faults_come_before_failed_reads(rt: HostRuntime) -> Result<(), Fail> {
             ..steady(read.piece)
         };
         let ran = run(rt.alloc(), "insn-canon", read.input, pace)?;
-        equal(&rt, &ran.status, &read.status, &read.piece);
-        equal_bytes(&rt, &ran.faults, read.fault, &read.piece);
+        let is_right = ran.status == read.status && ran.faults.as_slice() == read.fault;
+        holds(&rt, is_right, ("the second read", read.piece));
     }
     Ok(())
 }

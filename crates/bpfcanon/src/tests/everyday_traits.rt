@@ -1,20 +1,19 @@
 //! The traits and conversions that a Rust program expects of the libraries, each used once.
 
 use super::btf_files::point;
-use super::expect::{equal, equal_bytes, holds};
+use super::expect::holds;
 use bpf_canon::{
     ByteSource, InsnFeed, MemSink, ReadError, ReaderSource, RunCause, SideError, WriterSink,
     put_all,
 };
-use bpf_insn::{Group, GroupSet, InsnError, Order, Reg, SlotCause, SlotFault};
+use bpf_insn::{Group, InsnError, Order, Reg, SlotCause, SlotFault};
 use bpf_text::{LineCause, LineFault, ListError};
 use btf_raw::{BtfCause, BtfFault, NameCause};
-use btf_types::{Btf, BtfError, BtfView, Head, Item, TypeTable};
+use btf_types::{Btf, BtfError, BtfView, Head, Item, Records, TypeTable};
 use std::alloc::{AllocError, AllocFailed, Global};
 use std::collections::{BTreeSet, HashSet};
 use std::error::Error;
 use std::fmt::Debug;
-use std::process::Abort;
 use std::test::Fail;
 
 /// The second type of [`point`], and the last member of that.
@@ -63,10 +62,16 @@ where
     Ok(bytes)
 }
 
-/// Appends an error and a comma.
-fn push_error<E: Error>(alloc: Global, text: &mut String, error: &E) -> Result<(), ListError> {
-    text.push_str(&format!(in alloc; "{error}, ")?)?;
-    Ok(())
+/// Whether an error has this text.
+fn has_text<E: Error>(alloc: Global, error: &E, wanted: &str) -> Result<bool, AllocError> {
+    let text = format!(in alloc; "{error}")?;
+    Ok(text.as_str() == wanted)
+}
+
+/// Whether `Debug` shows a value as this text, or as one that begins with it if it ends with a blank.
+fn is_shown(alloc: Global, value: &impl Debug, shown: &str) -> Result<bool, AllocError> {
+    let text = format!(in alloc; "{value:?}")?;
+    Ok(text.starts_with(shown) && (text.len() == shown.len() || shown.ends_with(' ')))
 }
 
 /// The number of a table's types.
@@ -74,64 +79,44 @@ fn count_of(table: &impl TypeTable) -> u32 {
     table.count()
 }
 
-/// The head of the last type and its last item, which outlive the view.
-fn last_of(alloc: Global, file: &[u8]) -> Result<Option<(Head<'_>, Item<'_>)>, BtfError> {
-    let types = BtfView::parse(alloc, file)?;
+/// The head of the last type and its last item, which may outlive the view.
+fn last_of<'a>(types: &BtfView<'a>) -> Option<(Head<'a>, Item<'a>)> {
     let count = types.count();
-    if count == 0 {
-        return Ok(None);
+    if count > 0 && types.item_count(count) > 0 {
+        let last = types.item_count(count) - 1;
+        return Some((types.file_head(count), types.file_item(count, last)));
     }
-    let items = types.item_count(count);
-    if items == 0 {
-        return Ok(None);
-    }
-    Ok(Some((types.file_head(count), types.file_item(count, items - 1))))
+    None
 }
 
 #[test]
-fn errors_are_made_by_the_question_mark(rt: HostRuntime) -> Result<(), Fail> {
-    let insn = failed(SLOT) == Err(InsnError::Fault(SLOT));
-    let btf = failed(BTF) == Err(BtfError::Fault(BTF));
-    let line = failed(LINE) == Err(ListError::Fault(LINE));
-    let name = failed(NameCause::Utf8) == Err(BtfCause::NameUtf8);
-    equal(
-        &rt,
-        &(insn, btf, line, name),
-        &(true, true, true, true),
-        &"faults",
-    );
-    Ok(())
+fn errors_are_made_by_the_question_mark(rt: HostRuntime) {
+    let is_made = failed(SLOT) == Err(InsnError::Fault(SLOT))
+        && failed(BTF) == Err(BtfError::Fault(BTF))
+        && failed(LINE) == Err(ListError::Fault(LINE))
+        && failed(NameCause::Utf8) == Err(BtfCause::NameUtf8);
+    holds(&rt, is_made, ("faults", 4));
 }
 
 #[test]
-fn errors_of_the_allocator_are_made_by_the_question_mark(rt: HostRuntime) -> Result<(), Fail> {
-    let made = [
-        byte_on_heap::<InsnError>(rt.alloc()).is_ok(),
-        byte_on_heap::<BtfError>(rt.alloc()).is_ok(),
-        byte_on_heap::<ListError>(rt.alloc()).is_ok(),
-        byte_on_heap::<ReadError>(rt.alloc()).is_ok(),
-        byte_on_heap::<RunCause<SlotFault>>(rt.alloc()).is_ok(),
-        byte_on_heap::<SideError<SlotFault>>(rt.alloc()).is_ok(),
-    ];
-    equal(&rt, &made, &[true; 6], &"errors of the allocator");
-    Ok(())
+fn errors_of_the_allocator_are_made_by_the_question_mark(rt: HostRuntime) {
+    let is_made = byte_on_heap::<InsnError>(rt.alloc()).is_ok()
+        && byte_on_heap::<BtfError>(rt.alloc()).is_ok()
+        && byte_on_heap::<ListError>(rt.alloc()).is_ok()
+        && byte_on_heap::<ReadError>(rt.alloc()).is_ok()
+        && byte_on_heap::<RunCause<SlotFault>>(rt.alloc()).is_ok()
+        && byte_on_heap::<SideError<SlotFault>>(rt.alloc()).is_ok();
+    holds(&rt, is_made, ("errors of the allocator", 6));
 }
 
 #[test]
 fn faults_are_errors_with_a_text(rt: HostRuntime) -> Result<(), Fail> {
-    let mut text = String::new(rt.alloc());
-    push_error(rt.alloc(), &mut text, &SLOT)?;
-    push_error(rt.alloc(), &mut text, &BTF)?;
-    push_error(rt.alloc(), &mut text, &LINE)?;
-    push_error(rt.alloc(), &mut text, &NameCause::Utf8)?;
-    equal(
-        &rt,
-        &text.as_str(),
-        &"9 Src, 36 Magic, line 2 Word, Utf8, ",
-        &"faults",
-    );
-    let (name, btf) = (NameCause::Utf8.describe(), BtfCause::NameUtf8.describe());
-    equal(&rt, &name, &btf, &"sentences");
+    let has_texts = has_text(rt.alloc(), &SLOT, "9 Src")?
+        && has_text(rt.alloc(), &BTF, "36 Magic")?
+        && has_text(rt.alloc(), &LINE, "line 2 Word")?
+        && has_text(rt.alloc(), &NameCause::Utf8, "Utf8")?;
+    let has_sentence = NameCause::Utf8.describe() == BtfCause::NameUtf8.describe();
+    holds(&rt, has_texts && has_sentence, ("faults", 4));
     Ok(())
 }
 
@@ -140,7 +125,7 @@ fn values_have_names(rt: HostRuntime) -> Result<(), Fail> {
     let order: Order = "big".parse()?;
     let reg = Reg::try_from(3)?;
     let text = format!(in rt.alloc(); "{order} {reg} {}", Group::Packet)?;
-    equal(&rt, &text.as_str(), &"big r3 packet", &"names");
+    holds(&rt, text.as_str() == "big r3 packet", ("names", 3));
     Ok(())
 }
 
@@ -149,12 +134,8 @@ fn causes_are_ordered(rt: HostRuntime) -> Result<(), Fail> {
     let mut ordered = BTreeSet::new(rt.alloc());
     ordered.insert(SlotCause::Src)?;
     ordered.insert(SlotCause::Opcode)?;
-    equal(
-        &rt,
-        &ordered.first(),
-        &Some(&SlotCause::Opcode),
-        &"the first cause",
-    );
+    let is_first = ordered.first() == Some(&SlotCause::Opcode);
+    holds(&rt, is_first, ("the first cause", 2));
     Ok(())
 }
 
@@ -162,138 +143,90 @@ fn causes_are_ordered(rt: HostRuntime) -> Result<(), Fail> {
 fn causes_are_hashed(rt: HostRuntime) -> Result<(), Fail> {
     let mut hashed = HashSet::new(rt.alloc());
     hashed.insert(BtfCause::Magic)?;
-    holds(&rt, hashed.contains(&BtfCause::Magic), &"a cause in a set");
+    let is_in = hashed.contains(&BtfCause::Magic);
+    holds(&rt, is_in, ("a cause in a set", 1));
     Ok(())
 }
 
-#[test]
-fn sets_of_groups_are_collections(rt: HostRuntime) -> Result<(), Fail> {
-    let groups: &[Group] = &[Group::Packet, Group::Atomic64];
-    let mut names = String::new(rt.alloc());
-    for group in GroupSet::from(groups) {
-        names.push_str(&format!(in rt.alloc(); "{group} ")?)?;
-    }
-    equal(
-        &rt,
-        &names.as_str(),
-        &"atomic32 atomic64 packet ",
-        &"groups",
-    );
-    holds(&rt, GroupSet::default().is_empty(), &"no groups");
-    Ok(())
-}
-
-/// How many items each type of a view has.
-fn lens_of_view(alloc: Global, view: &BtfView<'_>) -> Result<Vec<usize>, AllocError> {
-    let mut lens = Vec::new(alloc);
+/// How many items the last two types of a view have.
+fn lens_of_view(view: &BtfView<'_>) -> (usize, usize) {
+    let mut lens = (usize::MAX, usize::MAX);
     for (id, _) in view {
-        lens.push(view.items(id).len())?;
+        lens = (lens.1, view.items(id).len());
     }
-    Ok(lens)
+    lens
 }
 
 /// Likewise of an owned table.
-fn lens_of_types(alloc: Global, types: &Btf) -> Result<Vec<usize>, AllocError> {
-    let mut lens = Vec::new(alloc);
+fn lens_of_types(types: &Btf) -> (usize, usize) {
+    let mut lens = (usize::MAX, usize::MAX);
     for (id, _) in types {
-        lens.push(types.items(id).len())?;
+        lens = (lens.1, types.items(id).len());
     }
-    Ok(lens)
+    lens
+}
+
+/// Whether the records of [`point`] are read from both ends.
+fn are_records(mut records: Records<'_>) -> bool {
+    records.len() == 2
+        && records.next_back() == Some((2, POINT_HEAD))
+        && records.next().is_some()
+        && records.next().is_none()
+        && records.next().is_none()
+}
+
+/// Whether a view of [`point`] is a collection of its types, and shown.
+fn is_view(alloc: Global, view: &BtfView<'_>) -> Result<bool, AllocError> {
+    let is_collection = count_of(&view) == 2 && lens_of_view(view) == (0, 2);
+    Ok(
+        is_collection
+            && are_records(view.records())
+            && is_shown(alloc, view, "BtfView { count: 2, .. }")?
+            && is_shown(alloc, &view.records(), "Records { left: 2 }")?,
+    )
+}
+
+/// Likewise an owned table.
+fn is_table(alloc: Global, types: &Btf) -> Result<bool, AllocError> {
+    let is_collection = types.count() == 2 && lens_of_types(types) == (0, 2);
+    Ok(
+        is_collection
+            && types.items(2).next_back() == Some(POINT_Y)
+            && is_shown(alloc, types, "Btf { count: 2, .. }")?
+            && is_shown(alloc, &types.items(2), "Items { left: 2 }")?,
+    )
 }
 
 #[test]
 fn views_are_collections(rt: HostRuntime) -> Result<(), Fail> {
     let view = BtfView::parse(rt.alloc(), point())?;
-    let lens = lens_of_view(rt.alloc(), &view)?;
-    equal(&rt, &lens.as_slice(), &&[0, 2][..], &"numbers of items");
-    equal(&rt, &count_of(&&view), &2, &"the number of types");
+    let is_view = is_view(rt.alloc(), &view)?;
+    let last = last_of(&view);
+    drop(view);
+    let is_last = last == Some((POINT_HEAD, POINT_Y));
+    holds(&rt, is_view && is_last, ("a view", 2));
     Ok(())
 }
 
 #[test]
 fn owned_tables_are_collections(rt: HostRuntime) -> Result<(), Fail> {
     let types = Btf::parse(rt.alloc(), point())?;
-    let lens = lens_of_types(rt.alloc(), &types)?;
-    equal(&rt, &lens.as_slice(), &&[0, 2][..], &"numbers of items");
-    equal(
-        &rt,
-        &types.items(2).next_back(),
-        &Some(POINT_Y),
-        &"the last item",
-    );
+    holds(&rt, is_table(rt.alloc(), &types)?, ("an owned table", 2));
     Ok(())
-}
-
-#[test]
-fn heads_and_items_outlive_their_view(rt: HostRuntime) -> Result<(), Fail> {
-    let last = last_of(rt.alloc(), point())?;
-    equal(&rt, &last, &Some((POINT_HEAD, POINT_Y)), &"the last type");
-    Ok(())
-}
-
-#[test]
-fn records_are_read_from_both_ends(rt: HostRuntime) -> Result<(), Fail> {
-    let types = BtfView::parse(rt.alloc(), point())?;
-    let mut records = types.records();
-    equal(&rt, &records.len(), &2, &"the number of records");
-    equal(
-        &rt,
-        &records.next_back(),
-        &Some((2, POINT_HEAD)),
-        &"the last record",
-    );
-    for is_left in [true, false, false] {
-        equal(&rt, &records.next().is_some(), &is_left, &"the next record");
-    }
-    Ok(())
-}
-
-/// Compares the text of a value by `Debug`.
-fn check_shown(
-    rt: &impl Abort,
-    alloc: Global,
-    value: &impl Debug,
-    shown: &str,
-) -> Result<(), Fail> {
-    let text = format!(in alloc; "{value:?}")?;
-    equal(rt, &text.as_str(), &shown, &"a value by Debug");
-    Ok(())
-}
-
-#[test]
-fn views_are_shown(rt: HostRuntime) -> Result<(), Fail> {
-    let view = BtfView::parse(rt.alloc(), point())?;
-    check_shown(&rt, rt.alloc(), &view, "BtfView { count: 2, .. }")?;
-    check_shown(&rt, rt.alloc(), &view.records(), "Records { left: 2 }")
-}
-
-#[test]
-fn owned_tables_are_shown(rt: HostRuntime) -> Result<(), Fail> {
-    let types = Btf::parse(rt.alloc(), point())?;
-    check_shown(&rt, rt.alloc(), &types, "Btf { count: 2, .. }")?;
-    check_shown(&rt, rt.alloc(), &types.items(2), "Items { left: 2 }")
 }
 
 #[test]
 fn devices_are_shown(rt: HostRuntime) -> Result<(), Fail> {
     let mut out = Vec::new(rt.alloc());
     let sink = MemSink::new(&mut out, 1, None);
-    let shown = "MemSink { len: 0, failed_writes: 0, .. }";
-    check_shown(&rt, rt.alloc(), &sink, shown)?;
     let source = ReaderSource::new(&b"a"[..]);
-    let shown = "ReaderSource { reader: [97], failed_reads: 0 }";
-    check_shown(&rt, rt.alloc(), &source, shown)
-}
-
-#[test]
-fn feeds_are_shown(rt: HostRuntime) -> Result<(), Fail> {
     let feed = InsnFeed::new(Order::Little, Order::Big);
-    let text = format!(in rt.alloc(); "{feed:?}")?;
-    holds(
-        &rt,
-        text.starts_with("InsnFeed { order: Little, to: Big, "),
-        &"a feed",
-    );
+    let sink_text = "MemSink { len: 0, failed_writes: 0, .. }";
+    let source_text = "ReaderSource { reader: [97], failed_reads: 0 }";
+    let are_shown = is_shown(rt.alloc(), &sink, sink_text)?
+        && is_shown(rt.alloc(), &source, source_text)?
+        && is_shown(rt.alloc(), &feed, "InsnFeed { order: Little, to: Big, ")?;
+    holds(&rt, are_shown, ("devices", 3));
     Ok(())
 }
 
@@ -305,9 +238,9 @@ fn a_feed_goes_back(rt: HostRuntime) -> Result<(), Fail> {
     feed.feed(&MOV_EXIT[..5], &mut out)?;
     let mut tried = feed.clone()?;
     let faulty = tried.feed(b"\0\0\0\xff\0\0\0\0\0\0\0", &mut Vec::new(rt.alloc()));
-    holds(&rt, faulty.is_err(), &"a piece with a fault");
     feed.feed(&MOV_EXIT[5..], &mut out)?;
-    equal_bytes(&rt, &out, MOV_EXIT, &"both pieces");
+    let is_fed = faulty.is_err() && out.as_slice() == MOV_EXIT;
+    holds(&rt, is_fed, ("both pieces", 2));
     Ok(())
 }
 
@@ -316,13 +249,9 @@ fn a_feed_goes_back(rt: HostRuntime) -> Result<(), Fail> {
 fn sources_are_borrowed(rt: HostRuntime) {
     let mut source = ReaderSource::new(MOV_EXIT);
     let mut start = [0; 5];
-    equal(
-        &rt,
-        &ByteSource::read(&mut &mut source, &mut start),
-        &Ok(5),
-        &"a read",
-    );
-    equal_bytes(&rt, source.into_inner(), &MOV_EXIT[5..], &"the rest");
+    let is_read = ByteSource::read(&mut &mut source, &mut start) == Ok(5);
+    let is_left = source.into_inner() == &MOV_EXIT[5..];
+    holds(&rt, is_read && is_left, ("a read", 5));
 }
 
 /// Likewise a sink, whose owner returns the writer.
@@ -330,6 +259,7 @@ fn sources_are_borrowed(rt: HostRuntime) {
 fn sinks_are_borrowed(rt: HostRuntime) {
     let mut out = Vec::new(rt.alloc());
     let mut sink = WriterSink::new(&mut out);
-    holds(&rt, put_all(&mut &mut sink, MOV_EXIT).is_ok(), &"writes");
-    equal_bytes(&rt, sink.into_inner(), MOV_EXIT, &"what was written");
+    let is_written = put_all(&mut &mut sink, MOV_EXIT).is_ok();
+    let is_whole = sink.into_inner().as_slice() == MOV_EXIT;
+    holds(&rt, is_written && is_whole, ("what was written", 16));
 }

@@ -1,7 +1,7 @@
 //! What the example of the libraries returns.
 
 use super::btf_files::point;
-use super::expect::{equal_bytes, holds};
+use super::expect::holds;
 use super::library_example::{
     StreamError, canonical_for_big_endian, canonical_stream, member_names, tidy_listing,
 };
@@ -33,7 +33,11 @@ fn member_rows() -> [Members; 2] {[
 fn the_example_reads_types(rt: HostRuntime) -> Result<(), Fail> {
     for members in member_rows() {
         let names = member_names(rt.alloc(), members.file)?;
-        equal_bytes(&rt, names.as_bytes(), members.names, &"names");
+        holds(
+            &rt,
+            names.as_bytes() == members.names,
+            ("names", members.names.len()),
+        );
     }
     Ok(())
 }
@@ -41,14 +45,22 @@ fn the_example_reads_types(rt: HostRuntime) -> Result<(), Fail> {
 #[test]
 fn the_example_writes_types(rt: HostRuntime) -> Result<(), Fail> {
     let canonical = canonical_for_big_endian(rt.alloc(), point())?;
-    equal_bytes(&rt, &canonical, CANONICAL_POINT, &"canonical bytes");
+    holds(
+        &rt,
+        canonical.as_slice() == CANONICAL_POINT,
+        ("canonical bytes", 0),
+    );
     Ok(())
 }
 
 #[test]
 fn the_example_reads_instructions(rt: HostRuntime) -> Result<(), Fail> {
     let listing = tidy_listing(rt.alloc(), b"mov r1, 0x10 ; sixteen\n\n  exit")?;
-    equal_bytes(&rt, &listing, b"mov r1, 16\nexit\n", &"listing");
+    holds(
+        &rt,
+        listing.as_slice() == b"mov r1, 16\nexit\n".as_slice(),
+        ("listing", 0),
+    );
     Ok(())
 }
 
@@ -58,7 +70,11 @@ fn the_example_reads_streams(rt: HostRuntime) -> Result<(), Fail> {
     let pieces: [&[u8]; 2] = [b"\xbf\x12\0\0\0", b"\0\0\0\x95\0\0\0\0\0\0\0"];
     let canonical = canonical_stream(rt.alloc(), &pieces)?;
     let expected = b"\xbf\x21\0\0\0\0\0\0\x95\0\0\0\0\0\0\0";
-    equal_bytes(&rt, &canonical, expected, &"canonical bytes");
+    holds(
+        &rt,
+        canonical.as_slice() == expected.as_slice(),
+        ("canonical bytes", 0),
+    );
     Ok(())
 }
 
@@ -72,5 +88,5 @@ fn the_example_reports_faults(rt: HostRuntime) {
         }
         _ => false,
     };
-    holds(&rt, is_found, &"a fault");
+    holds(&rt, is_found, ("a fault", 0));
 }

@@ -3,11 +3,9 @@
 use super::arena::arena;
 use super::btf_files::{INT, UNKNOWN_TYPE};
 use super::devices::{Sample, samples};
-use super::expect::{answered, equal, equal_bytes, failed, holds};
-use super::runner::{Ran, Row, words_of};
-use crate::command::command;
-use bpf_canon::{MemSink, MemSource};
-use std::alloc::Global;
+use super::expect::{holds, is_answer, is_failure};
+use super::runner::{Pace, Ran, Row, status_of, steady};
+use std::alloc::{AllocError, Global};
 use std::process::Abort;
 use std::test::Fail;
 
@@ -19,27 +17,17 @@ fn run_into(
     alloc: Global,
     line: &str,
     input: &[u8],
-    room: usize,
-    fault_room: usize,
-) -> Result<Ran, Fail> {
-    let words = words_of(alloc, line)?;
-    if words.is_empty() {
-        return Err("no words")?;
-    }
+    (room, fault_room): (usize, usize),
+) -> Result<Ran, AllocError> {
     let bump = arena(alloc, MOST_ROOM, room)?;
     let fault_bump = arena(alloc, MOST_ROOM, fault_room)?;
     let mut output = Vec::new(&bump);
     let mut faults = Vec::new(&fault_bump);
-    let mut source = MemSource::new(input, 4096, None);
-    let mut sink = MemSink::new(&mut output, 1, None);
-    let mut fault_sink = MemSink::new(&mut faults, 1, None);
-    let status = command(
-        alloc,
-        words.as_slice(),
-        &mut source,
-        &mut sink,
-        &mut fault_sink,
-    );
+    let pace = Pace {
+        read: 4096,
+        ..steady(1)
+    };
+    let status = status_of(alloc, (line, input), pace, &mut output, &mut faults)?;
     Ok(Ran {
         status,
         output: Vec::from_slice(alloc, &output)?,
@@ -47,29 +35,41 @@ fn run_into(
     })
 }
 
-/// A sink without enough memory has received a prefix of the output, and with more memory no less of it.
-fn check_sink(rt: &impl Abort, alloc: Global, sample: Sample) -> Result<(), Fail> {
-    let mut taken = 0;
-    for room in 0..=MOST_ROOM {
-        let ran = run_into(alloc, sample.line, sample.input, room, MOST_ROOM)?;
-        let case = (sample.line, room);
-        holds(rt, taken <= ran.output.len(), &case);
-        taken = ran.output.len();
-        holds(rt, taken <= room, &case);
-        if taken == sample.output.len() {
-            answered(rt, &ran, 0, sample.output, b"", &case);
-        } else {
-            failed(rt, &ran, b"write failed\n", sample.output, taken, &case);
-        }
+/// Whether a sink has received the whole output of a sample, or a prefix of it and the command says so.
+fn is_right(ran: &Ran, sample: &Sample) -> bool {
+    let taken = ran.output.len();
+    if taken == sample.output.len() {
+        return is_answer(ran, 0, sample.output, b"");
     }
-    equal(rt, &taken, &sample.output.len(), &sample.line);
+    is_failure(ran, b"write failed\n", sample.output, taken)
+}
+
+/// A sink without enough memory has received a prefix of the output, and with more memory no less of it.
+fn check_sink(rt: &impl Abort, alloc: Global, sample: &Sample) -> Result<(), AllocError> {
+    let mut before = 0;
+    for room in 0..=MOST_ROOM {
+        let ran = run_into(alloc, sample.line, sample.input, (room, MOST_ROOM))?;
+        let taken = ran.output.len();
+        let is_right = is_right(&ran, sample) && before <= taken && taken <= room;
+        holds(rt, is_right, (sample.line, room));
+        before = taken;
+    }
+    holds(rt, before == sample.output.len(), (sample.line, before));
+    Ok(())
+}
+
+/// Checks the sink of each sample.
+fn check_samples(rt: &impl Abort, alloc: Global, rows: &[Sample]) -> Result<(), AllocError> {
+    for sample in rows {
+        check_sink(rt, alloc, sample)?;
+    }
     Ok(())
 }
 
 #[test]
 fn the_output_sink_runs_out_of_memory(rt: HostRuntime) -> Result<(), Fail> {
-    for sample in samples().into_iter().flatten() {
-        check_sink(&rt, rt.alloc(), *sample)?;
+    for rows in samples() {
+        check_samples(&rt, rt.alloc(), rows)?;
     }
     Ok(())
 }
@@ -84,19 +84,21 @@ static REPORTS: [Row; 4] = [
 ];
 
 /// A fault sink without enough memory has received a prefix of the message, and changes nothing else.
-fn check_fault_sink(rt: &impl Abort, alloc: Global, row: &Row) -> Result<(), Fail> {
-    let mut taken = 0;
+fn check_fault_sink(rt: &impl Abort, alloc: Global, row: &Row) -> Result<(), AllocError> {
+    let fault = row.fault.as_bytes();
+    let mut before = 0;
     for room in 0..=MOST_ROOM {
-        let ran = run_into(alloc, row.line, row.input, MOST_ROOM, room)?;
-        let case = (row.name, room);
-        equal(rt, &ran.status, &row.status, &case);
-        equal_bytes(rt, &ran.output, row.output, &case);
-        holds(rt, row.fault.as_bytes().starts_with(&ran.faults), &case);
-        holds(rt, taken <= ran.faults.len(), &case);
-        taken = ran.faults.len();
-        holds(rt, taken <= room, &case);
+        let ran = run_into(alloc, row.line, row.input, (MOST_ROOM, room))?;
+        let taken = ran.faults.len().min(fault.len());
+        let is_right = is_answer(&ran, row.status, row.output, &fault[..taken]);
+        holds(
+            rt,
+            is_right && before <= taken && taken <= room,
+            (row.name, room),
+        );
+        before = taken;
     }
-    equal(rt, &taken, &row.fault.len(), &row.name);
+    holds(rt, before == fault.len(), (row.name, before));
     Ok(())
 }
 
@@ -106,7 +108,7 @@ fn the_fault_sink_runs_out_of_memory(rt: HostRuntime) -> Result<(), Fail> {
         check_fault_sink(&rt, rt.alloc(), row)?;
     }
     // without memory for output or for the message that says so
-    let ran = run_into(rt.alloc(), "insn-canon", b"\x95\0\0\0\0\0\0\0", 0, 0)?;
-    answered(&rt, &ran, 3, b"", b"", &"no room");
+    let ran = run_into(rt.alloc(), "insn-canon", b"\x95\0\0\0\0\0\0\0", (0, 0))?;
+    holds(&rt, is_answer(&ran, 3, b"", b""), ("no room", 0));
     Ok(())
 }

@@ -1,12 +1,12 @@
 //! Command lines and their jobs. The lines that are refused are rows of `vectors`, and those of each choice of options are in `options`.
 
-use super::expect::{equal, equal_bytes};
+use super::expect::holds;
 use super::runner::words_of;
 use crate::job::Job;
 use crate::line::parse::{LineError, parse_line};
 use crate::verb::Verb;
 use bpf_words::Order;
-use std::alloc::Global;
+use std::alloc::{AllocError, Global};
 use std::process::Abort;
 use std::test::Fail;
 
@@ -16,12 +16,10 @@ pub fn check_line(
     alloc: Global,
     line: &str,
     job: Result<Job, LineError>,
-) -> Result<(), Fail> {
+) -> Result<(), AllocError> {
     let words = words_of(alloc, line)?;
-    if words.is_empty() {
-        return Err("no words")?;
-    }
-    equal(rt, &parse_line(alloc, words.as_slice()), &job, &line);
+    let is_right = !words.is_empty() && parse_line(alloc, words.as_slice()) == job;
+    holds(rt, is_right, (line, 0));
     Ok(())
 }
 
@@ -53,9 +51,7 @@ fn lines_ask_for_jobs(rt: HostRuntime) -> Result<(), Fail> {
 
 #[test]
 fn errors_have_the_names_of_their_variants(rt: HostRuntime) -> Result<(), Fail> {
-    for (error, name) in [(LineError::Usage, "Usage"), (LineError::Memory, "Memory")] {
-        let text = format!(in rt.alloc(); "{error}")?;
-        equal_bytes(&rt, text.as_bytes(), name.as_bytes(), &name);
-    }
+    let text = format!(in rt.alloc(); "{} {}", LineError::Usage, LineError::Memory)?;
+    holds(&rt, text.as_str() == "Usage Memory", ("errors", 2));
     Ok(())
 }

@@ -1,8 +1,8 @@
 //! Each allocation of each command is refused in turn: an arena has one free byte more each time.
 
 use super::arena::arena;
-use super::btf_files::{Shown, joined, named, nameless};
-use super::expect::{equal, equal_bytes, holds};
+use super::btf_files::{Shown, joined, nameless};
+use super::expect::holds;
 use super::memory_samples::{Sample, samples};
 use crate::job::Job;
 use crate::outcome::Outcome;
@@ -29,7 +29,7 @@ fn job(verb: Verb, split: u64) -> Job {
 }
 
 /// A job, its input with the length of a read, its answer with ample memory, and the arenas in which it is tried: of less than `most`
-/// bytes, each with `step` bytes more.
+/// bytes, each with `step` bytes more. If it runs out of memory, it has written nothing or `part` bytes, or any part of its output.
 #[derive(Clone, Copy)]
 struct Trial<'a> {
     job: Job,
@@ -37,15 +37,20 @@ struct Trial<'a> {
     piece: usize,
     outcome: Outcome,
     output: &'a [u8],
+    part: Option<usize>,
     most: usize,
     step: usize,
 }
 
-/// How a job ended, and what its sink received.
-#[derive(Drop)]
-struct Ended {
-    outcome: Outcome,
-    output: Vec<u8>,
+/// How a job ended.
+#[derive(Clone, Copy)]
+enum Ended {
+    /// As with ample memory.
+    Whole,
+    /// Out of memory, after it has written so many bytes of its output.
+    Refused(usize),
+    /// Otherwise.
+    Wrong,
 }
 
 /// Runs a job over an arena with `room` free bytes.
@@ -55,33 +60,40 @@ fn run_over(alloc: Global, trial: &Trial<'_>, room: usize) -> Result<Ended, Allo
     let mut source = MemSource::new(trial.input, trial.piece.max(1), None);
     let mut sink = MemSink::new(&mut output, 4096, None);
     let outcome = run_job(&bump, trial.job, &mut source, &mut sink);
-    Ok(Ended { outcome, output })
+    Ok(ending(trial, outcome, &output))
+}
+
+/// How a job ended, by its outcome and what its sink received.
+fn ending(trial: &Trial<'_>, outcome: Outcome, output: &[u8]) -> Ended {
+    if outcome == trial.outcome && output == trial.output {
+        return Ended::Whole;
+    }
+    let may_write = output.is_empty() || trial.part.unwrap_or(output.len()) == output.len();
+    if outcome == Outcome::Memory && may_write && trial.output.starts_with(output) {
+        return Ended::Refused(output.len());
+    }
+    Ended::Wrong
 }
 
 /// How many sizes are tried that are enough.
 const ENOUGH: usize = 16;
 
-/// Runs a job with more and more memory. It runs out of memory after a part of its output, until it has enough, and then not again.
-/// The lengths of these parts are returned.
-fn refusals(rt: &impl Abort, alloc: Global, trial: &Trial<'_>) -> Result<Vec<usize>, Fail> {
-    let mut written = Vec::new(alloc);
-    let mut done = 0_usize;
+/// Runs a job with more and more memory. It runs out of memory until it has enough, and then not again. How often it does, and what it
+/// has written the last time, are returned, or nothing if it ends otherwise.
+fn refusals(alloc: Global, trial: &Trial<'_>) -> Result<Option<(usize, usize)>, AllocError> {
+    let mut refused = (0_usize, 0);
+    let mut enough = 0_usize;
     for room in (0..trial.most).step_by(trial.step.max(1)) {
-        let ended = run_over(alloc, trial, room)?;
-        let case = (trial.job.verb, trial.outcome, room);
-        if done == 0 && ended.outcome == Outcome::Memory {
-            holds(rt, trial.output.starts_with(&ended.output), &case);
-            written.push(ended.output.len())?;
-            continue;
+        match run_over(alloc, trial, room)? {
+            Ended::Refused(len) if enough == 0 => refused = (refused.0.saturating_add(1), len),
+            Ended::Whole => enough = enough.saturating_add(1),
+            _ => return Ok(None),
         }
-        equal(rt, &ended.outcome, &trial.outcome, &case);
-        equal_bytes(rt, &ended.output, trial.output, &case);
-        done = done.saturating_add(1);
-        if done == ENOUGH {
-            return Ok(written);
+        if enough == ENOUGH {
+            return Ok(Some(refused));
         }
     }
-    Err("never enough room")?
+    Ok(None)
 }
 
 /// The number of bytes that a job keeps at once, at least: an instruction, or its input and its output. A comparison stores no output.
@@ -93,31 +105,50 @@ fn kept_at_least(sample: &Sample) -> usize {
     }
 }
 
-/// A sample needs at least what it stores. Only a command that writes as it reads has written something when it runs out of memory:
-/// the other outputs are shorter than a piece.
-fn check_refusals(rt: &impl Abort, alloc: Global, sample: &Sample) -> Result<(), Fail> {
+/// What a command may have written when it runs out of memory: any part of its output if it writes as it reads. The other outputs are
+/// shorter than a piece.
+fn part_of(verb: Verb) -> Option<usize> {
+    match verb {
+        Verb::InsnCanon => None,
+        _ => Some(0),
+    }
+}
+
+/// A sample needs at least what it stores.
+fn check_refusals(rt: &impl Abort, alloc: Global, sample: &Sample) -> Result<(), AllocError> {
+    let verb = sample.verb;
     let trial = Trial {
-        job: job(sample.verb, sample.split),
+        job: job(verb, sample.split),
         input: sample.input,
         // The vector of the input grows more than once.
         piece: 5,
         outcome: sample.outcome,
         output: sample.output,
+        part: part_of(verb),
         most: MOST_ROOM,
         step: 1,
     };
-    let written = refusals(rt, alloc, &trial)?;
-    let case = (sample.verb, sample.outcome);
-    holds(rt, written.len() >= kept_at_least(sample), &case);
-    let is_unwritten = written.iter().all(|len| *len == 0);
-    holds(rt, is_unwritten || sample.verb == Verb::InsnCanon, &case);
+    let kept = kept_at_least(sample);
+    let is_right = match refusals(alloc, &trial)? {
+        Some((count, _)) => count >= kept,
+        None => false,
+    };
+    holds(rt, is_right, ("a sample that keeps so many bytes", kept));
+    Ok(())
+}
+
+/// Tries each sample.
+fn check_samples(rt: &impl Abort, alloc: Global, rows: &[Sample]) -> Result<(), AllocError> {
+    for sample in rows {
+        check_refusals(rt, alloc, sample)?;
+    }
     Ok(())
 }
 
 #[test]
 fn each_growth_is_refused(rt: HostRuntime) -> Result<(), Fail> {
-    for sample in samples().into_iter().flatten() {
-        check_refusals(&rt, rt.alloc(), sample)?;
+    for rows in samples() {
+        check_samples(&rt, rt.alloc(), rows)?;
     }
     Ok(())
 }
@@ -132,20 +163,22 @@ fn check_pieces(
     verb: Verb,
     shown: &Shown,
     first_piece: usize,
-) -> Result<(), Fail> {
+) -> Result<(), AllocError> {
     let trial = Trial {
         job: job(verb, 0),
         input: &shown.file,
         piece: 4096,
         outcome: Outcome::Done,
         output: &shown.text,
+        part: Some(first_piece),
         most: PIECES_ROOM,
         step: 512,
     };
-    let written = refusals(rt, alloc, &trial)?;
-    holds(rt, written.contains(&first_piece), &verb);
-    let is_first = written.iter().all(|len| *len == 0 || *len == first_piece);
-    holds(rt, is_first, &verb);
+    let is_right = match refusals(alloc, &trial)? {
+        Some((_, last)) => last == first_piece,
+        None => false,
+    };
+    holds(rt, is_right, (verb.name(), first_piece));
     Ok(())
 }
 
@@ -165,7 +198,16 @@ fn two_listing_pieces(alloc: Global) -> Result<Shown, AllocError> {
 /// A TYPEDEF of void whose name is 7 chunks of letters and one of control characters. The first piece is 13 bytes before the name and
 /// four chunks of letters. The second one has 14,336 bytes, for which the vector grows again.
 fn letters_and_controls(alloc: Global) -> Result<Shown, AllocError> {
-    let name: [(&[u8], usize); 2] = [(b"n", 14_336), (b"\x01", 2048)];
+    let file: [(&[u8], usize); 5] = [
+        (
+            b"\x9f\xeb\x01\0\x18\0\0\0\0\0\0\0\x0c\0\0\0\x0c\0\0\0\x02\x40\0\0",
+            1,
+        ),
+        (b"\x01\0\0\0\0\0\0\x08\0\0\0\0\0", 1),
+        (b"n", 14_336),
+        (b"\x01", 2048),
+        (b"\0", 1),
+    ];
     let text: [(&[u8], usize); 4] = [
         (b"[1] typedef \"", 1),
         (b"n", 14_336),
@@ -173,7 +215,7 @@ fn letters_and_controls(alloc: Global) -> Result<Shown, AllocError> {
         (b"\" type=0\n", 1),
     ];
     Ok(Shown {
-        file: named(alloc, &[1, 0x0800_0000, 0], &joined(alloc, &name)?)?,
+        file: joined(alloc, &file)?,
         text: joined(alloc, &text)?,
     })
 }
@@ -183,8 +225,9 @@ fn letters_and_controls(alloc: Global) -> Result<Shown, AllocError> {
 fn memory_runs_out_between_pieces(rt: HostRuntime) -> Result<(), Fail> {
     let listing = two_listing_pieces(rt.alloc())?;
     check_pieces(&rt, rt.alloc(), Verb::InsnShow, &listing, 8192)?;
-    let types = nameless(rt.alloc(), 2, 1000)?;
+    let types = nameless(rt.alloc())?;
     check_pieces(&rt, rt.alloc(), Verb::BtfShow, &types, 8192)?;
     let name = letters_and_controls(rt.alloc())?;
-    check_pieces(&rt, rt.alloc(), Verb::BtfShow, &name, 8205)
+    check_pieces(&rt, rt.alloc(), Verb::BtfShow, &name, 8205)?;
+    Ok(())
 }

@@ -8,57 +8,50 @@ use std::alloc::{AllocError, Global};
 use std::process::Abort;
 use std::test::Fail;
 
-/// An option as it is given, or nothing if it isn't.
-#[derive(Clone, Copy)]
-struct Choice<T> {
-    words: &'static str,
-    value: T,
-}
-
-/// The choices of a command.
+/// The choices of a command: each an option as it is given, or nothing if it isn't, with its value.
 #[derive(Clone, Copy)]
 struct Choices {
-    order: Choice<Order>,
-    to: Choice<Order>,
-    other: Choice<Order>,
-    split: Choice<u64>,
+    order: (&'static str, Order),
+    to: (&'static str, Order),
+    other: (&'static str, Order),
+    split: (&'static str, u64),
 }
 
 #[rattlefmt::skip]
-static ORDERS: [Choice<Order>; 5] = [
-    Choice { words: "", value: Order::Little },
-    Choice { words: "--order little", value: Order::Little },
-    Choice { words: "--order=little", value: Order::Little },
-    Choice { words: "--order big", value: Order::Big },
-    Choice { words: "--order=big", value: Order::Big },
+static ORDERS: [(&str, Order); 5] = [
+    ("", Order::Little),
+    ("--order little", Order::Little),
+    ("--order=little", Order::Little),
+    ("--order big", Order::Big),
+    ("--order=big", Order::Big),
 ];
 
 #[rattlefmt::skip]
-static OUTPUT_ORDERS: [Choice<Order>; 5] = [
-    Choice { words: "", value: Order::Little },
-    Choice { words: "--to little", value: Order::Little },
-    Choice { words: "--to=little", value: Order::Little },
-    Choice { words: "--to big", value: Order::Big },
-    Choice { words: "--to=big", value: Order::Big },
+static OUTPUT_ORDERS: [(&str, Order); 5] = [
+    ("", Order::Little),
+    ("--to little", Order::Little),
+    ("--to=little", Order::Little),
+    ("--to big", Order::Big),
+    ("--to=big", Order::Big),
 ];
 
 #[rattlefmt::skip]
-static SECOND_ORDERS: [Choice<Order>; 5] = [
-    Choice { words: "", value: Order::Little },
-    Choice { words: "--other little", value: Order::Little },
-    Choice { words: "--other=little", value: Order::Little },
-    Choice { words: "--other big", value: Order::Big },
-    Choice { words: "--other=big", value: Order::Big },
+static SECOND_ORDERS: [(&str, Order); 5] = [
+    ("", Order::Little),
+    ("--other little", Order::Little),
+    ("--other=little", Order::Little),
+    ("--other big", Order::Big),
+    ("--other=big", Order::Big),
 ];
 
 /// The last two are the greatest length.
 #[rattlefmt::skip]
-static SPLITS: [Choice<u64>; 5] = [
-    Choice { words: "", value: 0 },
-    Choice { words: "--split 0", value: 0 },
-    Choice { words: "--split=16", value: 16 },
-    Choice { words: "--split 134217728", value: 134_217_728 },
-    Choice { words: "--split=134217728", value: 134_217_728 },
+static SPLITS: [(&str, u64); 5] = [
+    ("", 0),
+    ("--split 0", 0),
+    ("--split=16", 16),
+    ("--split 134217728", 134_217_728),
+    ("--split=134217728", 134_217_728),
 ];
 
 /// Whether a command accepts the option, or it isn't given.
@@ -72,30 +65,25 @@ fn check_both_orders(
     alloc: Global,
     verb: Verb,
     choices: Choices,
-) -> Result<(), Fail> {
+) -> Result<(), AllocError> {
     let Choices {
+        order: (first, order),
+        to: (second, to),
+        other: (third, other),
+        split: (fourth, split),
+    } = choices;
+    let job = Job {
+        verb,
         order,
         to,
         other,
         split,
-    } = choices;
-    let job = Job {
-        verb,
-        order: order.value,
-        to: to.value,
-        other: other.value,
-        split: split.value,
     };
-    let options = [order.words, to.words, other.words, split.words];
-    let [first, second, third, fourth] = options;
     let name = verb.name();
-    for words in [
-        [name, first, second, third, fourth],
-        [name, fourth, third, second, first],
-    ] {
-        check_line(rt, alloc, words.join(alloc, " ")?.as_str(), Ok(job))?;
-    }
-    Ok(())
+    let line = format!(in alloc; "{name} {first} {second} {third} {fourth}")?;
+    check_line(rt, alloc, &line, Ok(job))?;
+    let line = format!(in alloc; "{name} {fourth} {third} {second} {first}")?;
+    check_line(rt, alloc, &line, Ok(job))
 }
 
 /// Each choice of the two options that only comparisons accept. The length is given if it is accepted.
@@ -103,9 +91,8 @@ fn check_second_files(
     rt: &impl Abort,
     alloc: Global,
     verb: Verb,
-    order: Choice<Order>,
-    to: Choice<Order>,
-) -> Result<(), Fail> {
+    (order, to): ((&'static str, Order), (&'static str, Order)),
+) -> Result<(), AllocError> {
     for other in SECOND_ORDERS {
         for split in SPLITS {
             let choices = Choices {
@@ -114,10 +101,22 @@ fn check_second_files(
                 other,
                 split,
             };
-            if is_taken(verb, Setting::Other, other.words)
-                && verb.takes(Setting::Split) != split.words.is_empty()
+            if is_taken(verb, Setting::Other, other.0)
+                && verb.takes(Setting::Split) != split.0.is_empty()
             {
                 check_both_orders(rt, alloc, verb, choices)?;
+            }
+        }
+    }
+    Ok(())
+}
+
+/// Each choice of the options of a command.
+fn check_options(rt: &impl Abort, alloc: Global, verb: Verb) -> Result<(), AllocError> {
+    for order in ORDERS {
+        for to in OUTPUT_ORDERS {
+            if is_taken(verb, Setting::Order, order.0) && is_taken(verb, Setting::To, to.0) {
+                check_second_files(rt, alloc, verb, (order, to))?;
             }
         }
     }
@@ -127,15 +126,7 @@ fn check_second_files(
 #[test]
 fn each_choice_of_options_asks_for_its_job(rt: HostRuntime) -> Result<(), Fail> {
     for verb in Verb::ALL {
-        for order in ORDERS {
-            for to in OUTPUT_ORDERS {
-                if is_taken(verb, Setting::Order, order.words)
-                    && is_taken(verb, Setting::To, to.words)
-                {
-                    check_second_files(&rt, rt.alloc(), verb, order, to)?;
-                }
-            }
-        }
+        check_options(&rt, rt.alloc(), verb)?;
     }
     Ok(())
 }

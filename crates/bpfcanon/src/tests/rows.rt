@@ -1,18 +1,34 @@
 //! All rows, each with 1-byte pieces, 3-byte pieces and the largest that a read offers.
 
-use super::expect::answered;
-use super::runner::{check_row, run, steady};
+use super::expect::{holds, is_answer};
+use super::runner::{Row, run, steady};
 use super::vectors::runs;
 use std::alloc::{AllocError, Global};
 use std::process::Abort;
 use std::test::Fail;
 
+/// Runs a row in pieces of three lengths, and compares its answers.
+fn check_row(rt: &impl Abort, alloc: Global, row: &Row) -> Result<(), AllocError> {
+    for piece in [1, 3, 4096] {
+        let ran = run(alloc, row.line, row.input, steady(piece))?;
+        let is_right = is_answer(&ran, row.status, row.output, row.fault.as_bytes());
+        holds(rt, is_right, (row.name, piece));
+    }
+    Ok(())
+}
+
+/// Runs the rows of a piece of the table.
+fn check_rows(rt: &impl Abort, alloc: Global, rows: &[Row]) -> Result<(), AllocError> {
+    for row in rows {
+        check_row(rt, alloc, row)?;
+    }
+    Ok(())
+}
+
 #[test]
 fn commands_answer_as_their_rows_say(rt: HostRuntime) -> Result<(), Fail> {
-    for row in runs().into_iter().flatten() {
-        for piece in [1, 3, 4096] {
-            check_row(&rt, rt.alloc(), row, steady(piece))?;
-        }
+    for rows in runs() {
+        check_rows(&rt, rt.alloc(), rows)?;
     }
     Ok(())
 }
@@ -44,11 +60,12 @@ fn cut_fault(alloc: Global, cut: CutFile, len: usize) -> Result<String, AllocErr
 }
 
 /// Cuts a file off after each of its bytes but the last.
-fn check_cut_file(rt: &impl Abort, alloc: Global, cut: CutFile) -> Result<(), Fail> {
+fn check_cut_file(rt: &impl Abort, alloc: Global, cut: CutFile) -> Result<(), AllocError> {
     for len in 0..cut.file.len() {
         let fault = cut_fault(alloc, cut, len)?;
         let ran = run(alloc, "btf-check", &cut.file[..len], steady(4096))?;
-        answered(rt, &ran, 1, b"", fault.as_bytes(), &len);
+        let is_right = is_answer(&ran, 1, b"", fault.as_bytes());
+        holds(rt, is_right, ("a cut file", len));
     }
     Ok(())
 }

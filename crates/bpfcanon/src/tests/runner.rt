@@ -1,11 +1,8 @@
 //! Runs the command over memory.
 
-use super::expect::answered;
 use crate::command::command;
 use bpf_canon::{MemSink, MemSource};
-use std::alloc::{AllocError, Global};
-use std::process::Abort;
-use std::test::Fail;
+use std::alloc::{AllocError, Allocator, Global};
 
 /// A command line with its input and its answer.
 #[derive(Clone, Copy)]
@@ -21,10 +18,11 @@ pub struct Row {
     pub fault: &'static str,
 }
 
-/// How many bytes a call of a device moves at most, and which call of each fails first, counted from 1.
+/// How many bytes a read and a write move at most, and which call of each device fails first, counted from 1.
 #[derive(Clone, Copy)]
 pub struct Pace {
-    pub piece: usize,
+    pub read: usize,
+    pub write: usize,
     pub read_fuse: Option<u64>,
     pub write_fuse: Option<u64>,
     pub fault_fuse: Option<u64>,
@@ -33,7 +31,8 @@ pub struct Pace {
 /// Devices that don't fail.
 pub fn steady(piece: usize) -> Pace {
     Pace {
-        piece,
+        read: piece,
+        write: piece,
         read_fuse: None,
         write_fuse: None,
         fault_fuse: None,
@@ -48,47 +47,49 @@ pub struct Ran {
     pub faults: Vec<u8>,
 }
 
+/// Appends an argument.
+fn push_word(alloc: Global, words: &mut Vec<String>, word: &str) -> Result<(), AllocError> {
+    words.push(String::from_str(alloc, word)?)?;
+    Ok(())
+}
+
 /// The argument vector: the name of the command and the arguments of a line.
 pub fn words_of(alloc: Global, line: &str) -> Result<Vec<String>, AllocError> {
     let mut words = Vec::new(alloc);
-    words.push(String::from_str(alloc, "bpfcanon")?)?;
+    push_word(alloc, &mut words, "bpfcanon")?;
     for word in line.split_whitespace() {
-        words.push(String::from_str(alloc, word)?)?;
+        push_word(alloc, &mut words, word)?;
     }
     Ok(words)
 }
 
-/// Runs a command line on an input.
-pub fn run(alloc: Global, line: &str, input: &[u8], pace: Pace) -> Result<Ran, Fail> {
+/// Runs a command line on an input, and returns its status. Its output and its messages are appended.
+pub fn status_of<A: Allocator>(
+    alloc: Global,
+    (line, input): (&str, &[u8]),
+    pace: Pace,
+    output: &mut Vec<u8, A>,
+    faults: &mut Vec<u8, A>,
+) -> Result<u8, AllocError> {
     let words = words_of(alloc, line)?;
-    let piece = pace.piece.max(1);
+    if words.is_empty() {
+        return Ok(u8::MAX);
+    }
+    let mut source = MemSource::new(input, pace.read.max(1), pace.read_fuse);
+    let mut sink = MemSink::new(output, pace.write.max(1), pace.write_fuse);
+    let mut fault_sink = MemSink::new(faults, pace.write.max(1), pace.fault_fuse);
+    let words = words.as_slice();
+    Ok(command(alloc, words, &mut source, &mut sink, &mut fault_sink))
+}
+
+/// Runs a command line on an input.
+pub fn run(alloc: Global, line: &str, input: &[u8], pace: Pace) -> Result<Ran, AllocError> {
     let mut output = Vec::new(alloc);
     let mut faults = Vec::new(alloc);
-    if words.is_empty() {
-        return Err("no words")?;
-    }
-    let mut source = MemSource::new(input, piece, pace.read_fuse);
-    let mut sink = MemSink::new(&mut output, piece, pace.write_fuse);
-    let mut fault_sink = MemSink::new(&mut faults, piece, pace.fault_fuse);
-    let status = command(
-        alloc,
-        words.as_slice(),
-        &mut source,
-        &mut sink,
-        &mut fault_sink,
-    );
+    let status = status_of(alloc, (line, input), pace, &mut output, &mut faults)?;
     Ok(Ran {
         status,
         output,
         faults,
     })
-}
-
-/// Runs a row, and compares its answer.
-pub fn check_row(rt: &impl Abort, alloc: Global, row: &Row, pace: Pace) -> Result<(), Fail> {
-    let ran = run(alloc, row.line, row.input, pace)?;
-    let case = (row.name, row.line, pace.piece);
-    let fault = row.fault.as_bytes();
-    answered(rt, &ran, row.status, row.output, fault, &case);
-    Ok(())
 }
