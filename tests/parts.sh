@@ -44,19 +44,10 @@ part() {
     report "$1" "${PIPESTATUS[0]}" $((SECONDS - began))
 }
 
-# Runs a part: its name and its command. What it prints and how many seconds it took are kept in two files.
-keep() {
-    local began=$SECONDS status
-    "${@:2}" >"$work/$1" 2>&1
-    status=$?
-    echo $((SECONDS - began)) >"$work/$1.seconds"
-    return $status
-}
-
 # Starts a part in parallel with others, as many as there are processors: its name and its command.
 start() {
     while [ "$(jobs -pr | wc -l)" -ge "$(nproc)" ]; do wait -n; done
-    keep "$@" &
+    "${@:2}" >"$work/$1" 2>&1 &
     started[$1]=$!
 }
 
@@ -64,11 +55,11 @@ has_started() { [ -n "${started[$1]:-}" ]; }
 
 # Waits for a part that was started, and shows what it printed.
 finish() {
-    local status
+    local began=$SECONDS status
     wait "${started[$1]}"
     status=$?
     tee "$log" <"$work/$1"
-    report "$1" $status "$(<"$work/$1.seconds")"
+    report "$1" $status $((SECONDS - began))
     return $status
 }
 

@@ -8,18 +8,17 @@ from tests.program import Report
 RECORD = "out/PROVED.txt"
 EARLIER = "an earlier record"
 ARCHIVE = "crates/bpfcanon_c/out/libbpfcanon_c.a"
-# The parts after the quick checks, and the variables of the stand-ins with which each fails.
 PARTS = {
-    "rt ci": {"FAIL": "bin/rt"},
-    "process tests": {"FAIL": "tests/run"},
-    "C archive": {"FAIL_CALL": "archive "},
-    "C interface": {"FAIL": "tests/c_interface/run"},
-    "bindings": {"FAIL": "tests/bindings"},
-    "objects": {"FAIL": "tests/objects/run"},
-    "objects in Go": {"FAIL": "tests/objects/both.py"},
-    "recipes": {"FAIL": "tests/recipes"},
-    "release objects": {"FAIL": "packaging/program.py"},
-    "release": {"FAIL": "tests/release"},
+    "bin/rt": "rt ci",
+    "tests/run": "process tests",
+    "capi/archive": "C archive",
+    "tests/c_interface/run": "C interface",
+    "tests/bindings": "bindings",
+    "tests/objects/run": "objects",
+    "tests/objects/both.py": "objects in Go",
+    "tests/recipes": "recipes",
+    "packaging/program.py": "release objects",
+    "tests/release": "release",
 }
 ONLY = "; nothing else was run"
 FIRST = "verify: quick checks passed, rt ci passed, C archive passed, process tests passed, C interface passed, bindings passed, "
@@ -86,10 +85,10 @@ def check_parts(report):
     with report.group("verify: each part fails once"), tree(replaced=RUNNERS) as made:
         status, last, _ = made.run("verify")
         report.expect_that((status, last) == (0, PASSED), "no part fails", f"it ended with {status}: {last}")
-        for name, variables in PARTS.items():
+        for part, name in PARTS.items():
             (made.folder / ARCHIVE).touch()
             (made.folder / RECORD).write_text(EARLIER)
-            status, last, _ = made.run("verify", **variables)
+            status, last, _ = made.run("verify", FAIL=part)
             is_named = f" {name} FAILED" in last and last.count("FAILED") == 1
             report.expect_that(status != 0 and is_named, name, f"it failed, and verify ended with {status}: {last}")
             right = "" if name == "release" else None
