@@ -42,8 +42,11 @@ refuses_to_release() (
     sources() { "$clone/capi/sources" $1 | sed "s/\$/  sources of $1/"; }
     cd "$clone" || exit 1
     rm -rf crates/*/out out
-    without_cargo=$(tr : '\n' <<<"$PATH" | while read -r folder; do [ -x "$folder/cargo" ] || printf '%s:' "$folder"; done)
-    PATH=$without_cargo refuses "" cargo bpfcanon.o libbpfcanon_c.a libbpfcanon_c.aarch64.a out/PROVED.txt packaging/program.py || exit 1
+    IFS=: read -ra folders <<<"$PATH"
+    # Only cargo is hidden: its folder may have every other tool.
+    mkdir "$work/tools" && for folder in "${folders[@]}"; do ln -s "$folder"/* "$work/tools"; done 2>"$work/found"
+    rm -f "$work/tools/cargo"
+    PATH=$work/tools refuses "" cargo bpfcanon.o libbpfcanon_c.a libbpfcanon_c.aarch64.a out/PROVED.txt packaging/program.py || exit 1
     refuses --partial bpfcanon.o libbpfcanon_c.a out/PROVED.txt || exit 1
     copy_built && mkdir -p out || exit 1
     echo "another record" >out/PROVED.txt
