@@ -141,12 +141,13 @@ def check_running_time(report):
 
 # ---- out_of_memory.py
 
-INVENTED = ["        return Err(BtfError::Memory);", "    None => Err(AllocError),", "    Err(_) => Err(RunCause::Memory),"]
+INVENTED = ["        return Err(BtfError::Memory); // ≡", "    Memory,", "use crate::BtfError::Memory as Full;"]
+INVENTED += ["    None => Err(AllocError),", "    Err(_) => Err(RunCause::Memory),"]
 # in a conversion: of another error, of each error, of a fault; and what makes something else of it
 INVENTED += ["    BtfError::Fault(_) => Outcome::Memory,", "    ReadError::TooLong | ReadError::Memory => Outcome::Memory,", "    _ => Outcome::Memory,"]
 INVENTED += ["    Outcome::Memory", "impl From<BtfFault> for AllocError {", "    Err(_) => Ending::Memory,"]
 INVENTED += ["    BtfError::Memory => Outcome::BtfFault(fault),", "    BtfError::Memory => with_fault(2, fault),", "    Ending::Memory => with_status(0),"]
-PASSED_ON = ["    Err(AllocError) => Err(BtfError::Memory),", "/// Out of memory: `AllocError`.", "    Memory,"]
+PASSED_ON = ["    Err(InsnError::Memory) => Err(BtfError::Memory),", "/// Out of memory: `AllocError`."]
 PASSED_ON += ["    BtfError::Memory => Outcome::Memory,", "impl From<AllocError> for Outcome {", "    Ending::Memory => with_status(4),"]
 
 

@@ -1,10 +1,11 @@
 """Shows by the form of the sources that out of memory is only passed on, never invented.
 
-    python3 -m tests.sources.out_of_memory [FILE..]
+    python3 -m tests.sources.out_of_memory
 
-No contract can say that an allocator failed, so a body that returns this error for an input would be proved. It would have to name the error
-somewhere, though. rt ci refuses a file in another layout than rt fmt's, so each line of crates/*/src that names `AllocError`, or a
-variant whose name ends in `Memory`, has to be one of these lines: anything else is refused, right or not.
+No contract can say that an allocator failed, so a body that returns this error for an input would be proved. It would have to name the
+error somewhere, though. rt ci refuses a file in another layout than rt fmt's, so each line of crates/*/src that names `AllocError`, a
+variant whose name ends in `Memory`, or its status in C, has to be one of these lines: anything else is refused, right or not. Comments,
+strings and types don't count, nor does what only clauses can write, such as `BtfError.Memory`.
 """
 
 import re
@@ -14,32 +15,42 @@ from tests import TOP
 from tests.program import Report
 
 CRATES = TOP / "crates"
-NAME = re.compile(r"\bAllocError\b|\bAllocFailed\b|\b\w*Memory\b(?!\()")
-ANSWER = r"(?:\w+::)*\w*Memory(?:, 0)?|AllocError"
-IN_ARM = rf"(?:Err\()?(?:{ANSWER})\)?"
+# comments, strings and characters
+NOT_CODE = re.compile(r"""//[^\n]*|/\*.*?\*/|r(#*)".*?"\1|"(?:\\.|[^"\\])*"|'(?:\\.|[^'\\])'""", re.S)
+NAME = re.compile(r"(?<!\.)\b(?:AllocError\b(?!>)|AllocFailed\b(?!<)|\w*Memory\b(?!\()|with_status\(4\))")
+VARIANT, ENUM = "    Memory,", re.compile(r"(?:pub(?:\(crate\))? )?enum .*")
+CONVERSION = re.compile(r" *fn from\(\w+: Alloc(?:Error|Failed<T>)\) -> \w+(?:<.*>)? \{")
+# A pattern without a path could be a variable, which any value matches.
+ANSWER = r"(?:\w+::)+\w*Memory"
 LINES = [
-    # what isn't an expression: comments, imports, strings, definitions, types, and lone patterns
-    r" *(?://|ghost |use |#\[error).*",
-    r" *\w+(?:, \w+)*,",
-    r".*(?:\) -> |: )Result<.*, AllocError>(?: \{|,)?",
+    # imports by the same name, and what only proofs read
+    r" *use (?!.* as ).*",
+    r" *ghost .*",
     # what is reported of it: the statuses and the message
-    r" *(?:\w+::\w+ \| )*\w+::Memory => (?:3|with_status\(4\)|report_line\(faults, b\"no memory\\n\"\)),",
-    r".*(?:≡|≢|→|λ).*",
-    # the conversions of an allocator's errors, whose body is the next line
-    r"impl.* From<Alloc(?:Error|Failed<T>)> for \w+(?:<.*>)? \{",
-    r" *fn from\(\w+: Alloc(?:Error|Failed<T>)\) -> \w+(?:<.*>)? \{",
+    r" *(?:\w+::\w+ \| )*\w+::Memory => (?:3|with_status\(4\)|report_line\(faults, b\"\"\)),",
     # an answer that is passed on as one, also by a conversion of another error
-    rf" *{IN_ARM} => (?:return )?(?:Err\()?(?:\w+\()?(?:{ANSWER})\)*,",
+    rf" *(?:Err\()?{ANSWER}\)? => (?:return )?(?:Err\()?(?:\w+\()?{ANSWER}(?:, 0)?\)*,",
 ]
+
+
+def code_of(source):
+    """The lines of a source, with empty strings and without comments."""
+    return NOT_CODE.sub(lambda it: ("" if it[0][0] == "/" else '""') + "\n" * it[0].count("\n"), source).splitlines()
+
+
+def is_passed_on(lines, number):
+    """Whether a line is one of the above, the variant of an enum, or the conversion of an allocator's error, whose body is one line."""
+    line = lines[number].rstrip()
+    if line == VARIANT:
+        return bool(ENUM.fullmatch(next((it for it in lines[number::-1] if it[:1].strip()), "")))
+    is_conversion = any(CONVERSION.fullmatch(it) for it in lines[max(number - 1, 0) : number + 1])
+    return is_conversion or any(re.fullmatch(it, line) for it in LINES)
 
 
 def wrong_lines(source):
     """Each line that isn't one of the above, with its number."""
-    lines = source.splitlines()
-    for number, line in enumerate(lines):
-        is_conversion = number and re.fullmatch(LINES[6], lines[number - 1])
-        if NAME.search(re.sub(r'"[^"]*"', '""', line)) and not is_conversion and not any(re.fullmatch(it, line) for it in LINES):
-            yield number + 1, line
+    lines = code_of(source)
+    return [(number + 1, line) for number, line in enumerate(lines) if NAME.search(line) and not is_passed_on(lines, number)]
 
 
 def main():
@@ -49,7 +60,7 @@ def main():
             name = str(path.relative_to(CRATES))
             if "/tests" in name:
                 continue
-            wrong = list(wrong_lines(path.read_text()))
+            wrong = wrong_lines(path.read_text())
             report.expect_that(not wrong, name, f"out of memory isn't passed on in {wrong}")
     return report.end("out of memory")
 
