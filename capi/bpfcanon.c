@@ -86,24 +86,31 @@ bpfcanon_answer bpfcanon_insn_front(uint32_t order, uint32_t to, const uint8_t *
 
 /* --- Records --- */
 
-/* crates/bpfcanon_c declares the same records. */
+/* crates/bpfcanon_c declares the same records, and its lengths have 64 bits. */
 #define IS_AT(record, field, offset) \
 	_Static_assert(offsetof(record, field) == (offset), #record "." #field)
-_Static_assert(sizeof(bpfcanon_insn) == 32, "bpfcanon_insn");
-IS_AT(bpfcanon_insn, len, 7);
-IS_AT(bpfcanon_insn, off, 8);
-IS_AT(bpfcanon_insn, group, 10);
-IS_AT(bpfcanon_insn, imm, 12);
-IS_AT(bpfcanon_insn, next_imm, 16);
-IS_AT(bpfcanon_insn, zero, 20);
-IS_AT(bpfcanon_insn, pos, 24);
-_Static_assert(sizeof(bpfcanon_btf_type) == 40, "bpfcanon_btf_type");
-IS_AT(bpfcanon_btf_type, items, 6);
-IS_AT(bpfcanon_btf_type, name, 8);
-IS_AT(bpfcanon_btf_type, first, 36);
-_Static_assert(sizeof(bpfcanon_btf_item) == 40, "bpfcanon_btf_item");
-IS_AT(bpfcanon_btf_item, kind, 28);
-IS_AT(bpfcanon_btf_item, value, 32);
+#define HAS_SIZE(type, size) _Static_assert(sizeof(type) == (size), #type)
+HAS_SIZE(size_t, 8);
+HAS_SIZE(bpfcanon_answer, 56);
+IS_AT(bpfcanon_answer, status, 0); IS_AT(bpfcanon_answer, cause, 4); IS_AT(bpfcanon_answer, pos, 8);
+IS_AT(bpfcanon_answer, line, 16); IS_AT(bpfcanon_answer, read, 24); IS_AT(bpfcanon_answer, written, 32);
+IS_AT(bpfcanon_answer, needed, 40); IS_AT(bpfcanon_answer, types, 48); IS_AT(bpfcanon_answer, groups, 52);
+HAS_SIZE(bpfcanon_insn, 32);
+IS_AT(bpfcanon_insn, form, 0); IS_AT(bpfcanon_insn, op, 1); IS_AT(bpfcanon_insn, bits, 2);
+IS_AT(bpfcanon_insn, from, 3); IS_AT(bpfcanon_insn, dst, 4); IS_AT(bpfcanon_insn, src, 5);
+IS_AT(bpfcanon_insn, by_reg, 6); IS_AT(bpfcanon_insn, len, 7); IS_AT(bpfcanon_insn, off, 8);
+IS_AT(bpfcanon_insn, group, 10); IS_AT(bpfcanon_insn, imm, 12); IS_AT(bpfcanon_insn, next_imm, 16);
+IS_AT(bpfcanon_insn, zero, 20); IS_AT(bpfcanon_insn, pos, 24);
+HAS_SIZE(bpfcanon_btf_type, 40);
+IS_AT(bpfcanon_btf_type, kind, 0); IS_AT(bpfcanon_btf_type, flag, 1); IS_AT(bpfcanon_btf_type, encoding, 2);
+IS_AT(bpfcanon_btf_type, linkage, 3); IS_AT(bpfcanon_btf_type, bit_offset, 4); IS_AT(bpfcanon_btf_type, bits, 5);
+IS_AT(bpfcanon_btf_type, items, 6); IS_AT(bpfcanon_btf_type, name, 8); IS_AT(bpfcanon_btf_type, name_len, 12);
+IS_AT(bpfcanon_btf_type, size, 16); IS_AT(bpfcanon_btf_type, target, 20); IS_AT(bpfcanon_btf_type, index, 24);
+IS_AT(bpfcanon_btf_type, count, 28); IS_AT(bpfcanon_btf_type, component, 32); IS_AT(bpfcanon_btf_type, first, 36);
+HAS_SIZE(bpfcanon_btf_item, 40);
+IS_AT(bpfcanon_btf_item, name, 0); IS_AT(bpfcanon_btf_item, name_len, 4); IS_AT(bpfcanon_btf_item, target, 8);
+IS_AT(bpfcanon_btf_item, bit_offset, 12); IS_AT(bpfcanon_btf_item, width, 16); IS_AT(bpfcanon_btf_item, offset, 20);
+IS_AT(bpfcanon_btf_item, size, 24); IS_AT(bpfcanon_btf_item, kind, 28); IS_AT(bpfcanon_btf_item, value, 32);
 
 /* Records in place of a null pointer whose room is 0. */
 static bpfcanon_insn no_insn;
