@@ -162,9 +162,10 @@ bpfcanon_answer bpfcanon_btf_decode(const uint8_t *bytes, size_t len, bpfcanon_b
 
 /* --- Calls that allocate --- */
 
-/* A call that writes, in a shape that fits all five, with what it is given besides its output. */
+/* A call that writes, in a shape that fits all five, with what finds a fault and what it is given besides its output. */
 struct request {
 	bpfcanon_answer (*write)(const struct request *request, uint8_t *out, size_t room);
+	bpfcanon_answer (*check)(const struct request *request);
 	uint32_t order, to;
 	const uint8_t *bytes;
 	size_t len;
@@ -196,6 +197,24 @@ static bpfcanon_answer write_types(const struct request *request, uint8_t *out, 
 	return bpfcanon_proved_btf_show(request->bytes, request->len, out, room);
 }
 
+/* Takes the memory that the call needs without its block. */
+static bpfcanon_answer without_room(const struct request *request)
+{
+	return request->write(request, &nowhere, 0);
+}
+
+/* Takes no memory: a comparison with no instructions reports the fault of the first input, and both orders. */
+static bpfcanon_answer check_insns(const struct request *request)
+{
+	return bpfcanon_proved_insn_same(request->order, request->bytes, request->len, request->to, &nowhere, 0);
+}
+
+/* What a call returns that has no memory and has freed its blocks: a fault is one whatever memory there is. */
+static bpfcanon_answer no_memory(bpfcanon_answer checked)
+{
+	return checked.status == BPFCANON_FAULT || checked.status == BPFCANON_ORDER ? checked : ended(BPFCANON_MEMORY);
+}
+
 /* Writes into a block of this capacity, with one byte more for a NUL. */
 static bpfcanon_answer write_block(const struct request *request, size_t room, uint8_t **out)
 {
@@ -223,13 +242,15 @@ static bpfcanon_answer write_new(const struct request *request, size_t times, ui
 	bpfcanon_answer answer;
 
 	answer = write_block(request, times * (request->len < most ? request->len : most), out);
-	return answer.status == BPFCANON_ROOM ? write_block(request, answer.needed, out) : answer;
+	if (answer.status == BPFCANON_ROOM)
+		answer = write_block(request, answer.needed, out);
+	return answer.status == BPFCANON_MEMORY ? no_memory(request->check(request)) : answer;
 }
 
 bpfcanon_answer bpfcanon_btf_canon_new(uint32_t to, const uint8_t *bytes, size_t len,
                                        uint8_t **out)
 {
-	const struct request request = { write_btf, 0, to, input(bytes, len), len };
+	const struct request request = { write_btf, without_room, 0, to, input(bytes, len), len };
 
 	return write_new(&request, 1, out);
 }
@@ -237,7 +258,7 @@ bpfcanon_answer bpfcanon_btf_canon_new(uint32_t to, const uint8_t *bytes, size_t
 bpfcanon_answer bpfcanon_insn_canon_new(uint32_t order, uint32_t to, const uint8_t *bytes,
                                         size_t len, uint8_t **out)
 {
-	const struct request request = { write_insns, order, to, input(bytes, len), len };
+	const struct request request = { write_insns, check_insns, order, to, input(bytes, len), len };
 
 	return write_new(&request, 1, out);
 }
@@ -246,7 +267,7 @@ bpfcanon_answer bpfcanon_insn_canon_new(uint32_t order, uint32_t to, const uint8
 bpfcanon_answer bpfcanon_insn_show_new(uint32_t order, const uint8_t *bytes, size_t len,
                                        char **out)
 {
-	const struct request request = { write_listing, order, 0, input(bytes, len), len };
+	const struct request request = { write_listing, check_insns, order, 0, input(bytes, len), len };
 	uint8_t *block;
 	bpfcanon_answer answer = write_new(&request, 4, &block);
 
@@ -257,7 +278,7 @@ bpfcanon_answer bpfcanon_insn_show_new(uint32_t order, const uint8_t *bytes, siz
 /* Instructions are at most twice as long as their listing: "exit" has 4 characters for 8 bytes. */
 bpfcanon_answer bpfcanon_insn_read_new(uint32_t to, const char *text, size_t len, uint8_t **out)
 {
-	const struct request request = { write_listed, 0, to, input(text, len), len };
+	const struct request request = { write_listed, without_room, 0, to, input(text, len), len };
 
 	return write_new(&request, 2, out);
 }
@@ -268,7 +289,7 @@ bpfcanon_answer bpfcanon_insn_read_new(uint32_t to, const char *text, size_t len
  */
 bpfcanon_answer bpfcanon_btf_show_new(const uint8_t *bytes, size_t len, char **out)
 {
-	const struct request request = { write_types, 0, 0, input(bytes, len), len };
+	const struct request request = { write_types, without_room, 0, 0, input(bytes, len), len };
 	uint8_t *block;
 	bpfcanon_answer answer = write_new(&request, 4, &block);
 
@@ -302,7 +323,7 @@ bpfcanon_answer bpfcanon_insn_decode_new(uint32_t order, const uint8_t *bytes, s
 
 	*out = NULL;
 	if (!block)
-		return ended(BPFCANON_MEMORY);
+		return no_memory(bpfcanon_insn_decode(order, bytes, len, NULL, 0));
 	answer = bpfcanon_insn_decode(order, bytes, len, block, room);
 	if (answer.status != BPFCANON_DONE) {
 		free(block);
@@ -327,7 +348,7 @@ bpfcanon_answer bpfcanon_btf_decode_new(const uint8_t *bytes, size_t len,
 	if (answer.status != BPFCANON_DONE) {
 		free(all);
 		free(all_items);
-		return answer;
+		return answer.status == BPFCANON_MEMORY ? no_memory(bpfcanon_btf_decode(bytes, len, NULL, 0, NULL, 0)) : answer;
 	}
 	*types = (bpfcanon_btf_type *)shrunk(all, answer.types, sizeof *all);
 	*items = (bpfcanon_btf_item *)shrunk(all_items, answer.written, sizeof *all_items);

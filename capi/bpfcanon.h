@@ -521,9 +521,10 @@ bpfcanon_answer bpfcanon_btf_decode(const uint8_t *bytes, size_t len, bpfcanon_b
 
 /*
  * Write the same output into a block from malloc and set `*out` to it: `written` bytes and, after a
- * listing, a NUL that `written` doesn't count. Free the block with bpfcanon_free. Unless the status
- * is BPFCANON_DONE, `*out` is NULL. The statuses are those of the call without `_new`, except
- * BPFCANON_ROOM.
+ * listing, a NUL that `written` doesn't count. Free the block with bpfcanon_free. `*out` is NULL
+ * unless the status is BPFCANON_DONE, and then it isn't, even if `written` is 0. The statuses are
+ * those of the call without `_new`, except BPFCANON_ROOM and BPFCANON_ALIGNMENT. A fault is reported
+ * even if there is no memory for the block; to find one in instructions takes no memory.
  */
 bpfcanon_answer bpfcanon_btf_canon_new(uint32_t to, const uint8_t *bytes, size_t len,
                                        uint8_t **out);
