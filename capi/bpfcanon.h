@@ -383,9 +383,10 @@ typedef struct bpfcanon_btf_item {
  * point to a record, and `all` is the array of all items.
  */
 #define bpfcanon_each_type(type, types, count) \
-	for ((type) = (types); (type) < (types) + (count); (type)++)
+	for ((type) = (types); (count) && (type) < (types) + (count); (type)++)
 #define bpfcanon_each_item(item, type, all) \
-	for ((item) = (all) + (type)->first; (item) < (all) + (type)->first + (type)->items; (item)++)
+	for ((item) = (type)->items ? (all) + (type)->first : NULL; \
+	     (item) && (item) < (all) + (type)->first + (type)->items; (item)++)
 
 /* --- Calls on the caller's memory --- */
 

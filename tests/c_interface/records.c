@@ -156,8 +156,8 @@ static void types_are_decoded(void)
 
 static void loops_go_over_types_and_items(void)
 {
-	const bpfcanon_btf_type *type;
-	const bpfcanon_btf_item *item;
+	const bpfcanon_btf_type *type, *no_types = NULL;
+	const bpfcanon_btf_item *item, *no_items = NULL;
 	char names[64] = "";
 
 	bpfcanon_each_type(type, types, COUNT(types)) {
@@ -167,6 +167,11 @@ static void loops_go_over_types_and_items(void)
 			strcat(names, bpfcanon_btf_name(file, item->name));
 	}
 	CHECK(!strcmp(names, "int s int"));
+	/* Nothing is added to a null pointer. */
+	bpfcanon_each_type(type, no_types, 0)
+		CHECK(!"there are no types");
+	bpfcanon_each_item(item, types, no_items)
+		CHECK(!"an INT has no items");
 }
 
 /* Any other address than a multiple of 8 is refused before anything else, even with no room. */
