@@ -384,7 +384,7 @@ static const struct meaning statuses[] = {
 };
 
 static const struct meaning insn_causes[] = {
-	{ NULL, NULL },
+	{ "Record", "the record is not that of an instruction" },
 	{ "Truncated", "the input ends inside an instruction" },
 	{ "Opcode", "no instruction has this opcode" },
 	{ "Dst", "no instruction with this opcode has this destination register" },

@@ -498,7 +498,8 @@ bpfcanon_answer bpfcanon_insn_decode(uint32_t order, const uint8_t *bytes, size_
  * Encodes the instructions that records say in the byte order `to`. The fields `len`, `group`,
  * `zero` and `pos` aren't read; the other fields that a form doesn't have have to be 0. Sets
  * `written`, in bytes. Room of 16 * `count` bytes is always enough. With BPFCANON_FAULT `pos` is
- * the index of the first record that says no instruction, and `cause` is 0. Allocates nothing.
+ * the index of the first record that says no instruction, and `cause` is 0, whose name is "Record".
+ * Allocates nothing.
  *
  * Statuses: BPFCANON_DONE, BPFCANON_FAULT, BPFCANON_ROOM, BPFCANON_ORDER, BPFCANON_ALIGNMENT.
  */
@@ -555,8 +556,8 @@ const char *bpfcanon_version(void);
 
 /*
  * The name of a status or cause, for example "Truncated", and a sentence that explains it, without
- * a full stop. The names and sentences of causes are those of docs/FAULTS.md. NULL for any other
- * number. The strings are static.
+ * a full stop. The names and sentences of causes are those of docs/FAULTS.md; the cause 0 of
+ * bpfcanon_insn_encode has one too. NULL for any other number. The strings are static.
  */
 const char *bpfcanon_status_name(uint32_t status);
 const char *bpfcanon_status_text(uint32_t status);

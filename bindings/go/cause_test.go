@@ -37,10 +37,8 @@ func TestCausesAreThoseOfTheHeader(t *testing.T) {
 				t.Errorf("%d has the name %q and the sentence %q", n, cause.String(), cause.Error())
 			}
 		}
-		for _, none := range []int{0, kind.count + 1} {
-			if got := kind.cause(none).String(); !strings.HasSuffix(got, fmt.Sprintf("Cause(%d)", none)) {
-				t.Errorf("%d: %q for a number without a name", none, got)
-			}
+		if got := kind.cause(kind.count + 1).String(); !strings.HasSuffix(got, fmt.Sprintf("Cause(%d)", kind.count+1)) {
+			t.Errorf("%q for the number after the last", got)
 		}
 	}
 }

@@ -136,12 +136,13 @@ static void has_names(name_call *name_of, name_call *text_of, uint32_t first, ui
 static void numbers_have_names(void)
 {
 	static const char *const status[] = { "Done", "Alignment", "the call is done, or the two inputs are the same" };
-	static const char *const insn[] = { "Truncated", "NextImm", "the input ends inside an instruction" };
+	static const char *const insn[] = { "Record", "NextImm", "the record is not that of an instruction" };
 	static const char *const line[] = { "Char", "Range", "a character that is neither blank nor part of a token" };
 	static const char *const btf[] = { "ShortHeader", "Component", "the file has fewer than 24 bytes" };
 
 	has_names(bpfcanon_status_name, bpfcanon_status_text, BPFCANON_DONE, BPFCANON_ALIGNMENT, status);
-	has_names(bpfcanon_insn_cause_name, bpfcanon_insn_cause_text, BPFCANON_INSN_TRUNCATED, BPFCANON_INSN_CAUSES, insn);
+	/* A fault of bpfcanon_insn_encode has the cause 0. */
+	has_names(bpfcanon_insn_cause_name, bpfcanon_insn_cause_text, 0, BPFCANON_INSN_CAUSES, insn);
 	has_names(bpfcanon_line_cause_name, bpfcanon_line_cause_text, BPFCANON_LINE_CHAR, BPFCANON_LINE_CAUSES, line);
 	has_names(bpfcanon_btf_cause_name, bpfcanon_btf_cause_text, BPFCANON_BTF_SHORT_HEADER, BPFCANON_BTF_CAUSES, btf);
 }

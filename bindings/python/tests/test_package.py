@@ -93,7 +93,7 @@ class Faults(unittest.TestCase):
         self.assertNotEqual(Fault(InsnCause.OPCODE).cause, BtfCause.MAGIC)
 
     def test_a_number_that_is_no_cause_has_no_name(self) -> None:
-        self.assertEqual([_library.string("insn_cause_name", number) for number in (0, 9)], ["", ""])
+        self.assertEqual([_library.string("line_cause_name", number) for number in (0, 5)], ["", ""])
 
     def test_statuses_become_exceptions(self) -> None:
         for status, error in [(_library.DONE, None), (_library.DIFFERENT, None), (_library.MEMORY, OutOfMemory)]:
