@@ -71,7 +71,11 @@ enum bpfcanon_order {
 	BPFCANON_BIG = 1
 };
 
-/* How a call ended. The comment says which fields of the answer are set; the others are 0. */
+/*
+ * How a call ended. The comment says which fields of the answer are set; the others are 0. If
+ * several apply, BPFCANON_ALIGNMENT comes first, then BPFCANON_ORDER, BPFCANON_FAULT and
+ * BPFCANON_ROOM; from bpfcanon_insn_front BPFCANON_ROOM comes before BPFCANON_FAULT.
+ */
 enum bpfcanon_status {
 	/* done: the fields that the call sets; or two inputs are the same */
 	BPFCANON_DONE = 0,
@@ -83,11 +87,11 @@ enum bpfcanon_status {
 	BPFCANON_FAULT_SECOND = 3,
 	/* out of memory */
 	BPFCANON_MEMORY = 4,
-	/* the output is longer than `room`, and nothing was written: `needed` */
+	/* the output is longer than `room`, and nothing was written: `needed`, and of btf_decode `types` */
 	BPFCANON_ROOM = 5,
 	/* an argument is not a valid byte order */
 	BPFCANON_ORDER = 6,
-	/* an array of records is not aligned to 8 bytes, and nothing was read or written */
+	/* an array of records, even an empty one, is not aligned to 8 bytes; nothing was read or written */
 	BPFCANON_ALIGNMENT = 7
 };
 
@@ -172,7 +176,7 @@ enum bpfcanon_group {
 typedef struct bpfcanon_answer {
 	uint32_t status; /* enum bpfcanon_status */
 	uint32_t cause;  /* for a fault: enum bpfcanon_insn_cause, _line_cause or _btf_cause */
-	uint64_t pos;    /* the offset of a fault of instructions or of BTF */
+	uint64_t pos;    /* the offset of a fault of instructions or of BTF, or the index of a record */
 	uint64_t line;   /* the line of a fault of a listing, from 1 */
 	size_t read;     /* bpfcanon_insn_front: the length of the complete instructions */
 	size_t written;  /* for a call that writes: the length of the output */
@@ -337,14 +341,14 @@ typedef struct bpfcanon_btf_type {
 	uint8_t bit_offset; /* INT: where its value begins */
 	uint8_t bits;       /* INT: the length of its value */
 	uint16_t items;     /* the number of its items */
-	uint32_t name;      /* the offset of the name in the input, where a NUL follows it */
+	uint32_t name;      /* where name_off points, as an offset in the input, with a NUL after the name */
 	uint32_t name_len;  /* the length of the name in bytes, 0 if there is none */
 	uint32_t size;      /* in bytes */
 	uint32_t target;    /* the ID of the type that it refers to */
 	uint32_t index;     /* ARRAY: the ID of the type of its index */
 	uint32_t count;     /* ARRAY: the number of its elements */
 	int32_t component;  /* DECL_TAG: the index of a member or parameter, -1 for the entire type */
-	uint32_t first;     /* the index of its first item in the array of items */
+	uint32_t first;     /* how many items the types before it have: the index of its first item */
 } bpfcanon_btf_type;
 
 /*
@@ -361,7 +365,7 @@ enum bpfcanon_item {
 
 /* An item of a type, which is a member, value, parameter or entry: 40 bytes. */
 typedef struct bpfcanon_btf_item {
-	uint32_t name;       /* the offset of the name in the input, where a NUL follows it */
+	uint32_t name;       /* as of a type, and of an ENTRY the offset of the string section */
 	uint32_t name_len;   /* the length of the name in bytes, 0 if there is none */
 	uint32_t target;     /* the ID of its type */
 	uint32_t bit_offset; /* MEMBER: from the start of the struct or union */
@@ -369,7 +373,7 @@ typedef struct bpfcanon_btf_item {
 	uint32_t offset;     /* ENTRY: in bytes */
 	uint32_t size;       /* ENTRY: in bytes */
 	uint32_t kind;       /* enum bpfcanon_item */
-	uint64_t value;      /* VALUE: 32 bits, VALUE64: 64; signed if the flag of the type is 1 */
+	uint64_t value;      /* VALUE: 32 bits, zero-extended; VALUE64: 64; signed if the type's flag is 1 */
 } bpfcanon_btf_item;
 
 /*
