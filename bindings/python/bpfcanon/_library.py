@@ -44,23 +44,27 @@ class Answer(ctypes.Structure):
     ]
 
 
+# The numbers of byte orders, and one that is none, for which a call returns ORDER.
+ORDERS, NO_ORDER = (0, 1), 2
+
+# The arguments of each call, and what C takes for each of them.
 _ORDER = [ctypes.c_uint32]
 _BYTES = [ctypes.c_void_p, ctypes.c_size_t]
 _BLOCK: list[Any] = [ctypes.POINTER(ctypes.c_void_p)]
-_CALLS: dict[str, list[Any]] = {
-    "btf_canon": [*_ORDER, *_BYTES, *_BYTES],
-    "btf_check": _BYTES,
-    "btf_decode_new": [*_BYTES, *_BLOCK, *_BLOCK],
-    "btf_same": [*_BYTES, *_BYTES],
-    "btf_show": [*_BYTES, *_BYTES],
-    "insn_canon": [*_ORDER, *_ORDER, *_BYTES, *_BYTES],
-    "insn_decode_new": [*_ORDER, *_BYTES, *_BLOCK],
-    "insn_encode": [*_ORDER, *_BYTES, *_BYTES],
-    "insn_front": [*_ORDER, *_ORDER, *_BYTES, *_BYTES],
-    "insn_groups": [*_ORDER, *_BYTES],
-    "insn_read": [*_ORDER, *_BYTES, *_BYTES],
-    "insn_same": [*_ORDER, *_BYTES, *_ORDER, *_BYTES],
-    "insn_show": [*_ORDER, *_BYTES, *_BYTES],
+_CALLS: dict[str, list[list[Any]]] = {
+    "btf_canon": [_ORDER, _BYTES, _BYTES],
+    "btf_check": [_BYTES],
+    "btf_decode_new": [_BYTES, _BLOCK, _BLOCK],
+    "btf_same": [_BYTES, _BYTES],
+    "btf_show": [_BYTES, _BYTES],
+    "insn_canon": [_ORDER, _ORDER, _BYTES, _BYTES],
+    "insn_decode_new": [_ORDER, _BYTES, _BLOCK],
+    "insn_encode": [_ORDER, _BYTES, _BYTES],
+    "insn_front": [_ORDER, _ORDER, _BYTES, _BYTES],
+    "insn_groups": [_ORDER, _BYTES],
+    "insn_read": [_ORDER, _BYTES, _BYTES],
+    "insn_same": [_ORDER, _BYTES, _ORDER, _BYTES],
+    "insn_show": [_ORDER, _BYTES, _BYTES],
 }
 _NAMES = ["insn_cause_name", "insn_cause_text", "line_cause_name", "line_cause_text", "btf_cause_name", "btf_cause_text"]
 
@@ -83,7 +87,7 @@ def library() -> ctypes.CDLL:
     if not has_all_calls(version.decode()):
         raise OSError(f"{path} has version {version.decode()}, and this package needs {OLDEST[0]}.{OLDEST[1]} or a later {OLDEST[0]}.x")
     for name, arguments in _CALLS.items():
-        _declare(loaded, name, arguments, Answer)
+        _declare(loaded, name, [it for argument in arguments for it in argument], Answer)
     for name in _NAMES:
         _declare(loaded, name, _ORDER, ctypes.c_char_p)
     _declare(loaded, "free", [ctypes.c_void_p], None)
@@ -133,22 +137,27 @@ def size_of(data: Buffer) -> int:
     return len(data) if isinstance(data, bytes) else memoryview(data).nbytes
 
 
-def ask(name: str, *arguments: Union[int, ctypes.c_void_p, Buffer]) -> Any:
+def number_of(order: object) -> int:
+    """Return the number of a byte order as C reads it: ctypes takes a number modulo 2^32, and nothing but numbers."""
+    return order if isinstance(order, int) and order in ORDERS else NO_ORDER
+
+
+def ask(name: str, *arguments: Any) -> Any:
     """Make a call, passing each buffer as a pointer and a length, and a c_void_p as the place of a pointer that the call sets.
 
     The pointers live only in this frame. One that an exception kept alive would lock its bytearray
     or mapping.
     """
     passed: list[Any] = []
-    for argument in arguments:
-        if isinstance(argument, (int, ctypes.c_void_p)):
-            passed.append(argument)
-        else:
+    for argument, kind in zip(arguments, _CALLS[name]):
+        if kind is _BYTES:
             passed += [pointer_to(argument), size_of(argument)]
+        else:
+            passed.append(number_of(argument) if kind is _ORDER else argument)
     return function(name)(*passed)
 
 
-def write(name: str, capacity: int, *arguments: Union[int, Buffer]) -> tuple[Any, memoryview]:
+def write(name: str, capacity: int, *arguments: Any) -> tuple[Any, memoryview]:
     """Make a call that writes into a buffer of `capacity` bytes.
 
     If the output is longer, the call is made again with a larger buffer. Returns the answer and the

@@ -95,7 +95,8 @@ def composite(kind: int, names: Strings, it: Any) -> bytes:
     start = head(kind, names.at(it.name), it.size, len(members), int(flag))
 
     def packed(member: Member) -> bytes:
-        return TRIPLE.pack(names.at(member.name), member.target, bit_field(member) if flag else member.bit_offset)
+        # Without bit-fields each width is 0, or of another type, for which `|` raises TypeError.
+        return TRIPLE.pack(names.at(member.name), member.target, bit_field(member) if flag else member.bit_offset | member.width)
 
     return start + b"".join(map(packed, members))
 

@@ -62,12 +62,14 @@ class Inputs(unittest.TestCase):
                 list(bpfcanon.insn_stream(pieces))  # type: ignore[arg-type]
 
     def test_a_number_that_is_no_order_is_refused(self) -> None:
-        for order in 2, -1, 1 << 31:
-            number: Any = order
+        orders: list[Any] = [2, -1, 1 << 31, (1 << 32) + 1, None, "big", b"\1", 1.5]
+        for order in orders:
             with self.assertRaises(OrderError):
-                bpfcanon.insn_canon(b"", order=number)
+                bpfcanon.insn_canon(b"", order=order)
             with self.assertRaises(OrderError):
-                bpfcanon.btf_canon(load("flow_table.big.btf"), to=number)
+                bpfcanon.btf_canon(load("flow_table.big.btf"), to=order)
+            with self.assertRaises(OrderError):
+                bpfcanon.insn_encode([], to=order)
 
 
 class Faults(unittest.TestCase):

@@ -73,6 +73,7 @@ NO_TYPES: list[Any] = [
     Struct("a", 4, [Member("\0", 0, 0, 0)]),
     Struct("a", 4, [Member("", 0, 0, 256)]),
     Struct("a", 4, [Member("", 0, 0, -1)]),
+    Struct("a", 4, [Member("", 0, 0, None)]),  # type: ignore[arg-type]
     Struct("a", 4, [Member("", 0, 1 << 32, 0)]),
     Struct("a", 1 << 30, [Member("", 0, 0, 1), Member("", 0, 1 << 24, 0)]),
     Struct("a", 4, [Member("", 0, 0, 0)] * (1 << 16)),
