@@ -24,8 +24,9 @@ from typing import TYPE_CHECKING
 from . import _library
 from ._library import Buffer
 from .btf import btf_canon, btf_check, btf_same, btf_show
-from .causes import BtfCause, Cause, Group, InsnCause, LineCause, Order
-from .errors import BpfcanonError, EncodeError, EncodeTypeError, Fault, NoSuchType, OrderError, OutOfMemory, UnknownCause, UnknownRecord
+from .causes import BtfCause, Cause, Group, InsnCause, LineCause, Order, OtherCause
+from .errors import BpfcanonError, EncodeError, EncodeTypeError, Fault, NoSuchType, OrderError, OutOfMemory
+from .errors import UnknownCause, UnknownRecord
 from .insn import Front, insn_canon, insn_front, insn_groups, insn_read, insn_same, insn_show, insn_stream
 
 __version__ = "0.1.0"
@@ -46,6 +47,7 @@ __all__ = [
     "NoSuchType",
     "Order",
     "OrderError",
+    "OtherCause",
     "OutOfMemory",
     "Program",
     "UnknownCause",

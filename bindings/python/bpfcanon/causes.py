@@ -5,7 +5,7 @@ equal.
 """
 
 import enum
-from typing import Union
+from typing import NamedTuple, Union
 
 from . import _library
 
@@ -118,4 +118,25 @@ class BtfCause(enum.Enum):
         return _library.string("btf_cause_text", self.value)
 
 
-Cause = Union[InsnCause, LineCause, BtfCause]
+KnownCause = Union[InsnCause, LineCause, BtfCause]
+
+
+class OtherCause(NamedTuple):
+    """A cause that only a newer library has: its number, and the name and the sentence that the library gives it."""
+
+    value: int
+    label: str
+    text: str
+
+
+Cause = Union[KnownCause, OtherCause]
+
+
+def cause_of(kind: type[KnownCause], number: int) -> Cause:
+    """Return the cause of a kind with a number."""
+    try:
+        return kind(number)
+    except ValueError:
+        call = kind.__name__.replace("Cause", "_cause").lower()
+        label, text = (_library.string(f"{call}_{what}", number) for what in ("name", "text"))
+        return OtherCause(number, label or f"{kind.__name__}({number})", text or "a cause that this version of the package doesn't know")

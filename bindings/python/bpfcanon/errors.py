@@ -1,9 +1,9 @@
 """The exceptions of the package, and how an answer of the library turns into one."""
 
-from typing import Any, Callable, Optional, Union
+from typing import Any, Optional
 
 from . import _library
-from .causes import BtfCause, Cause
+from .causes import Cause, KnownCause, OtherCause, cause_of
 
 
 class BpfcanonError(Exception):
@@ -16,7 +16,7 @@ class BpfcanonError(Exception):
 class Fault(BpfcanonError, ValueError):
     """The first fault of an input.
 
-    cause   an InsnCause, a LineCause or a BtfCause
+    cause   an InsnCause, a LineCause or a BtfCause, or an OtherCause
     pos     the offset of the fault in bytes; 0 in a listing
     line    the line of the fault in a listing, from 1; 0 in other inputs
     second  whether the fault is in the second of two inputs and the first is valid
@@ -30,25 +30,17 @@ class Fault(BpfcanonError, ValueError):
         self.second = second
 
     def __str__(self) -> str:
-        return f"{position_of(self)}: {self.cause.label}: {self.cause.text}"
+        position = f"line {self.line}" if self.line else f"byte {self.pos}"
+        return f"{'second input: ' if self.second else ''}{position}: {self.cause.label}: {self.cause.text}"
 
 
-class UnknownCause(BpfcanonError):
-    """The first fault of an input, with a cause that only a newer library has.
+class UnknownCause(Fault):
+    """The first fault of an input, with a cause that only a newer library has: an OtherCause."""
 
-    number  the number of the cause in the header of the library
-    pos, line, second  as in Fault
-    """
-
-    def __init__(self, number: int, pos: int = 0, line: int = 0, second: bool = False) -> None:
-        super().__init__(number, pos, line, second)
-        self.number = number
-        self.pos = pos
-        self.line = line
-        self.second = second
-
-    def __str__(self) -> str:
-        return f"{position_of(self)}: cause {self.number}, which this version of the package doesn't know"
+    @property
+    def number(self) -> int:
+        """The number of the cause in the header of the library."""
+        return self.cause.value
 
 
 class UnknownRecord(BpfcanonError):
@@ -114,7 +106,7 @@ class EncodeTypeError(BpfcanonError, ValueError):
            another class, with a field of another type, a number that its field can't hold, or a name with a NUL
     """
 
-    def __init__(self, index: int, type: object, cause: Optional[BtfCause]) -> None:
+    def __init__(self, index: int, type: object, cause: Optional[Cause]) -> None:
         super().__init__(index, type, cause)
         self.index = index
         self.type = type
@@ -125,22 +117,14 @@ class EncodeTypeError(BpfcanonError, ValueError):
         return f"the type with index {self.index} can't be encoded: {reason}"
 
 
-def position_of(error: Union[Fault, UnknownCause]) -> str:
-    """Return where a fault is, as the texts of errors begin."""
-    position = f"line {error.line}" if error.line else f"byte {error.pos}"
-    return f"{'second input: ' if error.second else ''}{position}"
-
-
-def error_of(answer: Any, cause: Callable[[int], Cause]) -> Optional[BpfcanonError]:
+def error_of(answer: Any, kind: type[KnownCause]) -> Optional[BpfcanonError]:
     """Return the exception that an answer stands for, or None."""
     if answer.status in (_library.DONE, _library.DIFFERENT):
         return None
     if answer.status in (_library.FAULT, _library.FAULT_SECOND):
-        second = answer.status == _library.FAULT_SECOND
-        try:
-            return Fault(cause(answer.cause), answer.pos, answer.line, second)
-        except ValueError:
-            return UnknownCause(answer.cause, answer.pos, answer.line, second)
+        cause = cause_of(kind, answer.cause)
+        error = UnknownCause if isinstance(cause, OtherCause) else Fault
+        return error(cause, answer.pos, answer.line, answer.status == _library.FAULT_SECOND)
     if answer.status == _library.MEMORY:
         return OutOfMemory("out of memory")
     if answer.status == _library.ORDER:
@@ -148,9 +132,9 @@ def error_of(answer: Any, cause: Callable[[int], Cause]) -> Optional[BpfcanonErr
     return BpfcanonError(f"unexpected status {answer.status}")
 
 
-def check(answer: Any, cause: Callable[[int], Cause]) -> Any:
+def check(answer: Any, kind: type[KnownCause]) -> Any:
     """Return the answer of a call that succeeded, or raise its exception."""
-    error = error_of(answer, cause)
+    error = error_of(answer, kind)
     if error is not None:
         raise error
     return answer

@@ -5,7 +5,7 @@ from typing import Iterable, Iterator, NamedTuple, Optional, Union
 from . import _library
 from ._library import Buffer
 from .causes import Group, InsnCause, LineCause, Order
-from .errors import BpfcanonError, Fault, UnknownCause, check, error_of
+from .errors import BpfcanonError, Fault, check, error_of
 
 
 def insn_canon(program: Buffer, *, order: Order = Order.LITTLE, to: Order = Order.LITTLE) -> bytes:
@@ -110,8 +110,4 @@ def insn_stream(pieces: Iterable[Buffer], *, order: Order = Order.LITTLE, to: Or
 
 def moved(error: BpfcanonError, offset: int) -> BpfcanonError:
     """Return the error with its offset counted from the start of the stream."""
-    if isinstance(error, Fault):
-        return Fault(error.cause, offset + error.pos)
-    if isinstance(error, UnknownCause):
-        return UnknownCause(error.number, offset + error.pos)
-    return error
+    return type(error)(error.cause, offset + error.pos) if isinstance(error, Fault) else error

@@ -210,4 +210,4 @@ def btf_encode(types: Iterable[Type], *, to: Order = Order.LITTLE) -> bytes:
         return btf_canon(writer.file(), to=to)
     except Fault as fault:
         index = writer.index_at(fault.pos)
-        raise EncodeTypeError(index, given[index], BtfCause(fault.cause)) from None
+        raise EncodeTypeError(index, given[index], fault.cause) from None

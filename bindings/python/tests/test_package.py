@@ -103,13 +103,15 @@ class Faults(unittest.TestCase):
             self.assertEqual(type(raised), error or type(None))
         self.assertIsNotNone(error_of(_library.Answer(99), InsnCause))
 
-    def test_a_cause_of_a_newer_library_is_an_error_of_the_package(self) -> None:
-        for answer, text in [
-            (_library.Answer(_library.FAULT, cause=99, pos=8), "byte 8: cause 99, which this version of the package doesn't know"),
-            (_library.Answer(_library.FAULT, cause=99, line=8), "line 8: cause 99, which this version of the package doesn't know"),
-        ]:
-            error = error_of(answer, InsnCause)
-            self.assertEqual((type(error), str(error)), (bpfcanon.UnknownCause, text))
+    def test_a_cause_of_a_newer_library_is_a_fault(self) -> None:
+        error = error_of(_library.Answer(_library.FAULT, cause=99, pos=8), InsnCause)
+        text = "byte 8: InsnCause(99): a cause that this version of the package doesn't know"
+        self.assertEqual((isinstance(error, Fault), str(error)), (True, text))
+        with mock.patch.object(_library, "string", side_effect=lambda *words: f"{words} of the library"):
+            error = error_of(_library.Answer(_library.FAULT_SECOND, cause=99), BtfCause)
+        assert isinstance(error, bpfcanon.UnknownCause)
+        label, text = (f"('btf_cause_{it}', 99) of the library" for it in ("name", "text"))
+        self.assertEqual((error.number, error.second, str(error)), (99, True, f"second input: byte 0: {label}: {text}"))
 
     def test_a_stream_counts_the_offset_of_an_unknown_cause_from_its_start(self) -> None:
         program = unhex(INSNS[1][1])
@@ -122,7 +124,7 @@ class Faults(unittest.TestCase):
             self.assertEqual(next(stream), program[:8])
             with self.assertRaises(bpfcanon.UnknownCause) as raised:
                 next(stream)
-        self.assertEqual(raised.exception.args, (99, 9, 0, False))
+        self.assertEqual((raised.exception.number, raised.exception.pos), (99, 9))
 
     def test_the_package_has_the_causes_of_the_header(self) -> None:
         header = (TOP / "capi" / "bpfcanon.h").read_text()
