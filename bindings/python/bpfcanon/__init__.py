@@ -25,7 +25,7 @@ from . import _library
 from ._library import Buffer
 from .btf import btf_canon, btf_check, btf_same, btf_show
 from .causes import BtfCause, Cause, Group, InsnCause, LineCause, Order, OtherCause
-from .errors import BpfcanonError, EncodeError, EncodeTypeError, Fault, NoSuchType, OrderError, OutOfMemory
+from .errors import BpfcanonError, EncodeError, EncodeTypeError, Fault, NoSuchType, OrderError, OutOfMemory, TypeCircle
 from .errors import UnknownCause, UnknownRecord
 from .insn import Front, insn_canon, insn_front, insn_groups, insn_read, insn_same, insn_show, insn_stream
 
@@ -50,6 +50,7 @@ __all__ = [
     "OtherCause",
     "OutOfMemory",
     "Program",
+    "TypeCircle",
     "UnknownCause",
     "UnknownRecord",
     "btf_canon",

@@ -81,6 +81,20 @@ class NoSuchType(BpfcanonError, KeyError):
         return f"there is no type {self.id!r}: the file has {self.count} types"
 
 
+class TypeCircle(BpfcanonError, ValueError):
+    """A chain of qualifiers, typedefs and type tags without an end, such as a `const` of itself, which is valid BTF.
+
+    id  the ID from which it was followed
+    """
+
+    def __init__(self, id: int) -> None:
+        super().__init__(id)
+        self.id = id
+
+    def __str__(self) -> str:
+        return f"type {self.id} leads round a circle"
+
+
 class EncodeError(BpfcanonError, ValueError):
     """A value that isn't an instruction: a register over 10, an operation of another form, a number that its field can't hold.
 

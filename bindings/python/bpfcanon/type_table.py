@@ -3,10 +3,10 @@
 from __future__ import annotations
 
 from functools import cached_property
-from typing import Iterator, Mapping, Optional
+from typing import Iterator, Mapping
 
 from ._library import Buffer
-from .errors import NoSuchType
+from .errors import NoSuchType, TypeCircle
 from .records import TYPE, TypeRecord, decode_types
 from .type_records import FOLLOWED, File, name_of, type_of
 from .types import Type, Void
@@ -85,16 +85,17 @@ class Btf:
                 found.setdefault(name, []).append(id)
         return found
 
-    def resolve(self, id: int) -> Optional[int]:
+    def resolve(self, id: int) -> int:
         """Return the ID of the first type that isn't a const, volatile, restrict, typedef or type tag, following targets from an ID.
 
-        Returns None if they form a circle.
+        Raises TypeCircle if they form a circle.
         """
+        at = id
         for _ in range(len(self.types) + 1):
-            if not id:
-                return id
-            record = self.types.record(id)
+            if not at:
+                return at
+            record = self.types.record(at)
             if record.kind not in FOLLOWED:
-                return id
-            id = record.target
-        return None
+                return at
+            at = record.target
+        raise TypeCircle(id)

@@ -7,12 +7,13 @@ The files differ from those of testdata/ in a few bytes. test_changed_files.py w
 
 from __future__ import annotations
 
+import contextlib
 import random
 import sys
 from typing import Callable, Iterator, Optional
 
 import bpfcanon
-from bpfcanon import Btf, Fault, Order, Program
+from bpfcanon import Btf, Fault, Order, Program, TypeCircle
 
 from .samples import load
 from .test_vectors import ORDERS, data, rows
@@ -51,8 +52,9 @@ def walk_types(file: bytes) -> bool:
     assert listing == bpfcanon.btf_show(file), file.hex()
     assert bpfcanon.btf_encode(btf.types.values()) == bpfcanon.btf_canon(file), file.hex()
     for id in btf.types:
-        end = btf.resolve(id)
-        assert end is None or end == 0 or end in btf.types, file.hex()
+        with contextlib.suppress(TypeCircle):
+            end = btf.resolve(id)
+            assert end == 0 or end in btf.types, file.hex()
         assert not btf.name(id) or id in btf.by_name(btf.name(id)), file.hex()
     return True
 

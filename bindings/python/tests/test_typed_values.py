@@ -10,7 +10,7 @@ import unittest
 from typing import Any, Callable
 
 import bpfcanon
-from bpfcanon import Btf, EncodeError, NoSuchType, Order, OrderError, Program, insn_encode, insns
+from bpfcanon import Btf, EncodeError, NoSuchType, Order, OrderError, Program, TypeCircle, insn_encode, insns
 from bpfcanon.insn_types import Alu, AluOp, AtomicOp, Atomic, Branch, BranchOp, CallBtf, CallHelper, Exit, Imm, Insn, Jump, Load, LoadSigned
 from bpfcanon.insn_types import MapFd, MapValueFd, Number, Reg, Size, SmallSize, StoreImm, Wide, Width
 from bpfcanon.types import Const, Enum, EnumValue, Int, Member, Struct, Typedef, Void
@@ -147,7 +147,11 @@ class Types(unittest.TestCase):
 
     def test_a_circle_has_no_end(self) -> None:
         found = table([0, info(10), 1], [0, info(10), 3], [1, info(8), 2], [0, info(9), 2], [0, info(2), 5])
-        self.assertEqual([found.resolve(id) for id in range(1, 6)], [None, None, None, None, 5])
+        for id in range(1, 5):
+            with self.assertRaises(TypeCircle) as raised:
+                found.resolve(id)
+            self.assertEqual(str(raised.exception), f"type {id} leads round a circle")
+        self.assertEqual(found.resolve(5), 5)
         self.assertEqual(found.types[1], Const(1))
 
     def test_signed_values_have_a_sign(self) -> None:
