@@ -2,7 +2,7 @@
 
 A kind of type is a frozen dataclass, and so is a kind of item. A `name` is "" if there is none. A `size` is in bytes. A `target` is
 the ID of a type of the same file; 0 is void. Members, values, parameters and entries are sequences, which make an item when it is
-asked for.
+asked for. Types are equal if all of their fields and items are; IDs are compared, and not what they refer to.
 """
 
 from __future__ import annotations
@@ -80,6 +80,15 @@ class Entry:
 Item = typing.Union[Member, EnumValue, Value64, Param, Entry]
 
 
+class HasItems:
+    """A type with items. A list of them becomes a tuple, so that types with equal fields and items are equal, with equal hashes."""
+
+    def __post_init__(self) -> None:
+        for name, value in vars(self).items():
+            if isinstance(value, list):
+                object.__setattr__(self, name, tuple(value))
+
+
 @dataclass(frozen=True)
 class Void:
     """Type 0, which has no record in a file."""
@@ -113,7 +122,7 @@ class Array:
 
 
 @dataclass(frozen=True)
-class Struct:
+class Struct(HasItems):
     """A struct (btf.rst section 2.2.4)."""
 
     name: str
@@ -122,7 +131,7 @@ class Struct:
 
 
 @dataclass(frozen=True)
-class Union:
+class Union(HasItems):
     """A union (btf.rst section 2.2.5)."""
 
     name: str
@@ -131,7 +140,7 @@ class Union:
 
 
 @dataclass(frozen=True)
-class Enum:
+class Enum(HasItems):
     """An enum with 32-bit values (btf.rst section 2.2.6). `signed` is its kind_flag."""
 
     name: str
@@ -187,7 +196,7 @@ class Func:
 
 
 @dataclass(frozen=True)
-class FuncProto:
+class FuncProto(HasItems):
     """A function prototype, which returns `target` (btf.rst section 2.2.13)."""
 
     target: int
@@ -204,7 +213,7 @@ class Var:
 
 
 @dataclass(frozen=True)
-class Datasec:
+class Datasec(HasItems):
     """A data section (btf.rst section 2.2.15)."""
 
     name: str
@@ -243,7 +252,7 @@ class TypeTag:
 
 
 @dataclass(frozen=True)
-class Enum64:
+class Enum64(HasItems):
     """An enum with 64-bit values (btf.rst section 2.2.19). `signed` is its kind_flag."""
 
     name: str

@@ -164,7 +164,7 @@ class Types(unittest.TestCase):
         record = [1, info(4, 1), 4, 3, 0, 0]
         first, second = table(record).types[1], table([1, info(8), 0], record).types[2]
         value = Struct("a", 4, (Member("b", 0, 0, 0),))
-        self.assertEqual({first, second, value}, {value})
+        self.assertEqual({first, second, Struct("a", 4, [Member("b", 0, 0, 0)])}, {value})
         self.assertNotEqual(first, table([1, info(4, 1), 4, 3, 0, 1]).types[1])
         self.assertEqual(repr(first), repr(value))
 

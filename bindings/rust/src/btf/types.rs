@@ -46,7 +46,7 @@ numbered! {
 }
 
 /// A type without its items: its kind and its fields. [`Btf::items`](super::Btf::items) returns its
-/// members, values, parameters or entries.
+/// members, values, parameters or entries. Types that differ only in these are equal.
 ///
 /// A `name` is empty if the type has none. A `size` is in bytes. A `target` is the ID of a type of
 /// the same file, or void.
