@@ -11,8 +11,8 @@
 //! compare it: [`insn::Insn`], [`btf::Type`] and [`btf::Item`]. [`insn::encode`] and
 //! [`btf::encode`] are the way back.
 //!
-//! The crate calls the C library `libbpfcanon`, whose calls are proved to meet their contracts. The
-//! few lines of C around them and this crate are tested. The build script finds the library by
+//! The crate calls the C library `libbpfcanon`, whose core is proved to meet its contracts. The few
+//! lines of C around that core and this crate are tested. The build script finds the library by
 //! `pkg-config`, or in the folder `BPFCANON_LIB_DIR`. With `BPFCANON_STATIC=1`, or if the folder
 //! has no shared library, the static one is linked into the program.
 //!
