@@ -110,8 +110,8 @@ def encode_insns(records: bytes, to: Order) -> tuple[Any, bytearray]:
     """
     count = len(records) // INSN.size
     out = bytearray(16 * count)  # the longest instruction has two slots
-    # A bytearray is aligned to 8 bytes, as records have to be.
-    pointers = [_library.pointer_to(it) for it in (bytearray(records), out)]
+    # A bytearray is aligned to 8 bytes, as records have to be, unless it is empty.
+    pointers = [_library.pointer_to(it) for it in (bytearray(records or INSN.size), out)]
     answer = _library.function("insn_encode")(_library.number_of(to), pointers[0], count, pointers[1], len(out))
     del pointers, out[answer.written :]
     return answer, out
