@@ -109,26 +109,24 @@ def type_strings_laid_out(file: ElfFile, random: Random) -> Optional[str]:
     return "strings of the types laid out again"
 
 
+def alignable(file: ElfFile) -> list[Section]:
+    """The sections that may have any alignment."""
+    return [it for number, it in enumerate(file.sections) if number and file.name(number) != b".maps"]
+
+
 def layout_changed(file: ElfFile, random: Random) -> Optional[str]:
     random.shuffle(file.layout)
     file.padding = random.randrange(256)
     file.table_first = random.random() < 0.3
     if random.random() < 0.3:
-        for section in file.sections[1:]:
+        for section in alignable(file):
             section.alignment = 1
     return f"contents in another sequence{', not aligned' if file.sections[1].alignment == 1 else ''}"
 
 
 def alignment_changed(file: ElfFile, random: Random) -> Optional[str]:
-    section = random.choice(file.sections[1:])
-    section.alignment = random.choice((1, 2, 4, 8, 16, 32))
+    random.choice(alignable(file)).alignment = random.choice((1, 2, 4, 8, 16, 32))
     return "alignment of a section"
-
-
-def address_changed(file: ElfFile, random: Random) -> Optional[str]:
-    section = random.choice(file.sections[1:])
-    section.address = random.getrandbits(32)
-    return "address of a section"
 
 
 def header_changed(file: ElfFile, random: Random) -> Optional[str]:
@@ -187,6 +185,6 @@ def unused_symbol(file: ElfFile, random: Random) -> Optional[str]:
 
 CHANGES = (
     (2, debug_removed), (1, debug_changed), (2, locals_reordered), (1, labels_removed), (2, names_laid_out), (2, type_strings_laid_out),
-    (2, layout_changed), (1, alignment_changed), (1, address_changed), (1, header_changed), (2, lines_changed), (2, line_texts_changed),
-    (1, note_added), (1, unused_symbol),
+    (2, layout_changed), (1, alignment_changed), (1, header_changed), (2, lines_changed), (2, line_texts_changed), (1, note_added),
+    (1, unused_symbol),
 )  # fmt: skip

@@ -168,7 +168,7 @@ func refuseOverlaps(header *elf.Header64, rows []elf.Section64, names []string, 
 	spans := []span{{0, headerSize, ""}, {header.Shoff, header.Shoff + rowSize*uint64(header.Shnum), ""}}
 	for number := range rows {
 		row, size := &rows[number], fileSize(&rows[number])
-		if size > 0 && !isInside(row.Off, size, length) {
+		if !isInside(row.Off, size, length) {
 			return refuse(SectionCut, names[number], 0)
 		}
 		if size > 0 {
@@ -204,9 +204,21 @@ func readSections(data []byte, rows []elf.Section64, names []string) ([]section,
 			if it.kind, err = kindOf(it.name, &it.header); err != nil {
 				return nil, err
 			}
+			if err = checkPlace(it.name, &it.header); err != nil {
+				return nil, err
+			}
 		}
 	}
 	return sections, nil
+}
+
+// checkPlace refuses an address or an alignment that no compiler writes. libbpf's loader reads neither,
+// but other loaders and its linker do.
+func checkPlace(name string, row *elf.Section64) error {
+	if row.Addr != 0 || row.Addralign&(row.Addralign-1) != 0 || name == ".maps" && row.Addralign != 8 {
+		return refuseAs(SectionTable, name, 0, "it has an address, or an alignment that isn't a power of two, or not 8 for .maps")
+	}
+	return nil
 }
 
 // fileSize returns the number of bytes that a section has in the file.

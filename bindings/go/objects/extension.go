@@ -179,7 +179,7 @@ func functionTypes(runs []run) []functionType {
 }
 
 // lineRuns refuses lines that aren't in the sequence of the instructions, and those whose strings the
-// kernel refuses.
+// kernel or cilium/ebpf refuses.
 func (r *extensionReader) lineRuns(runs []run) ([]lineRun, error) {
 	var found []lineRun
 	for _, it := range runs {
@@ -189,7 +189,7 @@ func (r *extensionReader) lineRuns(runs []run) ([]lineRun, error) {
 			if words[0]%8 != 0 || int64(words[0]) <= last {
 				return nil, r.refuse(ExtensionLines, it.start)
 			}
-			isInStrings = isInStrings && uint64(words[1]) < uint64(len(r.strings)) && uint64(words[2]) < uint64(len(r.strings))
+			isInStrings = isInStrings && r.strings.hasStart(words[1]) && r.strings.hasStart(words[2])
 			offsets, last = append(offsets, words[0]), int64(words[0])
 		}
 		if !isInStrings {

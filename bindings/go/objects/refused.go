@@ -70,10 +70,10 @@ var (
 	SymbolName         = Cause{"SymbolName", "the name of a symbol is outside its string table, too long or not printable ASCII"}
 	SymbolSection      = Cause{"SymbolSection", "a symbol is in a section that doesn't exist, or that has neither code nor data"}
 	SymbolPlace        = Cause{"SymbolPlace", "a function or variable isn't inside its section, or a function isn't whole instructions"}
-	SymbolTwice        = Cause{"SymbolTwice", "two global or weak symbols have the same name"}
+	SymbolTwice        = Cause{"SymbolTwice", "two global or weak symbols have the same name, or a label the name or place of another symbol"}
 	FunctionOverlap    = Cause{"FunctionOverlap", "functions overlap, or too many have the same instructions"}
 	RelocationTable    = Cause{"RelocationTable", "a table of relocations doesn't have the form, the name or the section of one"}
-	RelocationSymbol   = Cause{"RelocationSymbol", "a relocation refers to a symbol that doesn't exist, has no name that can be read or is in no code or data"}
+	RelocationSymbol   = Cause{"RelocationSymbol", "a relocation refers to a symbol that doesn't exist, has no readable name, is in no code or data, or is a label with a size"}
 	RelocationPlace    = Cause{"RelocationPlace", "a relocation isn't inside its section, or not at an instruction"}
 	RelocationTwice    = Cause{"RelocationTwice", "an instruction has two relocations"}
 	TypesOrder         = Cause{"TypesOrder", ".BTF has another byte order than the file"}
@@ -83,7 +83,7 @@ var (
 	TypesSection       = Cause{"TypesSection", "a DATASEC has the name of a section whose size isn't covered"}
 	Extension          = Cause{"Extension", ".BTF.ext doesn't have the form that its header states"}
 	ExtensionSection   = Cause{"ExtensionSection", "a part of .BTF.ext has a section twice, one without a name, or too many"}
-	ExtensionString    = Cause{"ExtensionString", "a record of .BTF.ext refers to a string outside the strings of .BTF, too long or not printable ASCII"}
+	ExtensionString    = Cause{"ExtensionString", "a record of .BTF.ext refers to no string of .BTF, or to one that is too long or not printable ASCII"}
 	ExtensionLines     = Cause{"ExtensionLines", "the source lines of .BTF.ext aren't in the sequence of the instructions, or not at an instruction"}
 	ExtensionTypes     = Cause{"ExtensionTypes", "there is a .BTF.ext and no .BTF"}
 	RowsTooLong        = Cause{"RowsTooLong", "the rows of a line have more than 134,217,728 bytes"}

@@ -94,6 +94,11 @@ func TestRefusedSections(t *testing.T) {
 		{"past the end", objects.SectionCut, "x+0", edited("x", func(it *elf.Section64) { it.Size = 1 << 40 })},
 		{"past the end by its offset", objects.SectionCut, "x+0", edited("x", func(it *elf.Section64) { it.Off = 1 << 63 })},
 		{"past the end, modulo 2^64", objects.SectionCut, "x+0", edited("x", func(it *elf.Section64) { it.Off = 1<<64 - 1 })},
+		{"zeros past the end by their offset", objects.SectionCut, ".bss+0",
+			withParts(part{name: ".bss", kind: elf.SHT_NOBITS, edit: func(it *elf.Section64) { it.Off = 1 << 63 }}).bytes()},
+		{"an address", objects.SectionTable, "x+0", edited("x", func(it *elf.Section64) { it.Addr = 8 })},
+		{"an alignment of 3", objects.SectionTable, "x+0", edited("x", func(it *elf.Section64) { it.Addralign = 3 })},
+		{"maps with an alignment of 16", objects.SectionTable, ".maps+0", edited(".maps", func(it *elf.Section64) { it.Addralign = 16 })},
 		{"in the header", objects.SectionOverlap, "x+0", edited("x", func(it *elf.Section64) { it.Off = 63 })},
 		{"in another one", objects.SectionOverlap, "x+0", edited("x", func(it *elf.Section64) { it.Off = 65 })},
 		{"without a name", objects.SectionName, "+0", edited("", nil)},
@@ -164,6 +169,7 @@ func TestRefusedSymbols(t *testing.T) {
 	three := made{parts: []part{{name: "x", content: exit + exit + exit, flags: loaded}}}
 	three.symbols = []sym{{"a", elf.STT_FUNC, 1, 0, 16, elf.STB_GLOBAL, 0}, {"b", elf.STT_FUNC, 1, 8, 8, elf.STB_GLOBAL, 0}}
 	weak := sym{name: "outside", bind: elf.STB_WEAK}
+	label, unread, twin := sym{name: "label", section: 1}, sym{name: "\xff", section: 1}, sym{name: "main", section: 1, value: 4}
 	var aliases []sym
 	for i := 0; i < 17; i++ {
 		aliases = append(aliases, function)
@@ -183,9 +189,21 @@ func TestRefusedSymbols(t *testing.T) {
 		{"half an instruction", objects.SymbolPlace, ".symtab+24", with(func(it *sym) { it.size = 4 })},
 		{"two global symbols", objects.SymbolTwice, ".symtab+48", withSymbols(function, function).bytes()},
 		{"two weak symbols", objects.SymbolTwice, ".symtab+72", withSymbols(function, weak, weak).bytes()},
+		{"a label at a function", objects.SymbolTwice, ".symtab+48", withSymbols(function, label).bytes()},
+		{"its name can't be read", objects.SymbolTwice, ".symtab+48", withSymbols(function, unread).bytes()},
+		{"one of its name elsewhere", objects.SymbolTwice, ".symtab+48", withSymbols(function, twin).bytes()},
 		{"overlapping functions", objects.FunctionOverlap, "x+8", three.bytes()},
 		{"17 names of a function", objects.FunctionOverlap, "xdp+0", withSymbols(aliases...).bytes()},
 	})
+}
+
+// clang names the targets of jumps, one of which may be the start of a function. Assembly has labels
+// elsewhere.
+func TestLabelsThatOtherLoadersKnow(t *testing.T) {
+	target, label := sym{name: "LBB0_1", section: 1}, sym{name: "label", section: 1, value: 4}
+	if _, err := keyOf(withSymbols(function, target, label).bytes()); err != nil {
+		t.Error(err)
+	}
 }
 
 // Offsets of functions count from the start of their sections.
@@ -205,6 +223,8 @@ func TestRefusedRelocations(t *testing.T) {
 	}
 	unnamed := withRelocations(rel{0, 1, 1, 0})
 	unnamed.symbols = []sym{{name: "\xff", kind: elf.STT_NOTYPE, section: 1, bind: elf.STB_LOCAL}}
+	sized := withRelocations(rel{0, 1, 1, 0})
+	sized.symbols = []sym{{name: "LBB0_1", section: 1, size: 8}}
 	leftOut := withParts(part{name: ".debug_info", content: "1"})
 	leftOut.symbols = []sym{{kind: elf.STT_SECTION, section: 2, bind: elf.STB_LOCAL}}
 	leftOut.relocations = []rel{{0, 1, 1, 0}}
@@ -224,6 +244,7 @@ func TestRefusedRelocations(t *testing.T) {
 		{"no such symbol", objects.RelocationSymbol, ".relxdp+0", withRelocations(rel{0, 2, 1, 0}).bytes()},
 		{"a symbol in a section that is left out", objects.RelocationSymbol, ".relxdp+0", leftOut.bytes()},
 		{"a symbol without a name", objects.RelocationSymbol, ".relxdp+0", unnamed.bytes()},
+		{"a label with a size", objects.RelocationSymbol, ".relxdp+0", sized.bytes()},
 		{"past the end", objects.RelocationPlace, ".relxdp+0", withRelocations(rel{8, 1, 1, 0}).bytes()},
 		{"in an instruction", objects.RelocationPlace, ".relxdp+0", withRelocations(rel{4, 1, 1, 0}).bytes()},
 		{"two for one instruction", objects.RelocationTwice, ".relxdp+0", withRelocations(rel{0, 1, 1, 0}, rel{0, 1, 1, 0}).bytes()},

@@ -93,7 +93,7 @@ func readTable(file *elfFile, table, target *section, symbols []symbol) (relocat
 	for number, row := range rows {
 		place := table.header.Entsize * uint64(number)
 		index := elf.R_SYM64(row.Info)
-		if uint64(index) >= uint64(len(symbols)) || !symbols[index].hasName || !symbols[index].isInContent() {
+		if uint64(index) >= uint64(len(symbols)) || !symbols[index].isReferable() {
 			return found, refuse(RelocationSymbol, table.name, place)
 		}
 		if row.Off >= target.header.Size || target.isCode() && row.Off%8 != 0 {

@@ -30,6 +30,11 @@ func (t stringTable) at(offset uint32) (string, bool) {
 	return rest[:end], true
 }
 
+// hasStart reports whether a string begins at an offset.
+func (t stringTable) hasStart(offset uint32) bool {
+	return uint64(offset) < uint64(len(t)) && (offset == 0 || t[offset-1] == 0)
+}
+
 // isPrintable reports whether all bytes are printable ASCII.
 func isPrintable(name string) bool {
 	for i := 0; i < len(name); i++ {

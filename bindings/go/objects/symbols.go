@@ -4,6 +4,7 @@ import (
 	"bytes"
 	"debug/elf"
 	"encoding/binary"
+	"strings"
 )
 
 const maxSymbols = 1 << 18
@@ -24,6 +25,20 @@ func (s *symbol) bind() elf.SymBind { return elf.ST_BIND(s.Info) }
 func (s *symbol) isDefinition() bool {
 	kind := s.kind()
 	return s.bind() != elf.STB_LOCAL || kind != elf.STT_NOTYPE && kind != elf.STT_SECTION && kind != elf.STT_FILE
+}
+
+// isLabel reports whether the symbol is a local one that libbpf doesn't look up, and other loaders take
+// for a function or a variable. They know the targets of jumps that clang writes by their names.
+func (s *symbol) isLabel() bool {
+	isTarget := s.section != nil && s.section.isCode() && strings.HasPrefix(s.name, "LBB")
+	isNamed := s.section != nil && (s.name != "" || !s.hasName)
+	return isNamed && s.bind() == elf.STB_LOCAL && s.kind() == elf.STT_NOTYPE && !isTarget
+}
+
+// isReferable reports whether a relocation may refer to the symbol: its name can be read, and what else
+// loaders read of it is covered.
+func (s *symbol) isReferable() bool {
+	return s.hasName && s.isInContent() && (s.isDefinition() || s.Size == 0)
 }
 
 // isInContent reports whether the symbol is in code or data, or in no section.
@@ -58,7 +73,10 @@ func readSymbols(file *elfFile) ([]symbol, error) {
 			return nil, err
 		}
 	}
-	return symbols, refuseSameSymbols(symbols)
+	if err := refuseSameSymbols(symbols); err != nil {
+		return nil, err
+	}
+	return symbols, refuseLabels(symbols)
 }
 
 // checkSymbolTable returns the section with the symbols if it has the form of a table of them.
@@ -123,6 +141,26 @@ func refuseSameSymbols(symbols []symbol) error {
 				return refuse(SymbolTwice, ".symtab", uint64(elf.Sym64Size*number))
 			}
 			seen[it.name] = true
+		}
+	}
+	return nil
+}
+
+// refuseLabels refuses a label with the name or the place of another symbol.
+func refuseLabels(symbols []symbol) error {
+	type place struct {
+		section *section
+		value   uint64
+	}
+	names, places := make(map[string]bool), make(map[place]bool)
+	for number := range symbols {
+		if it := &symbols[number]; it.isDefinition() {
+			names[it.name], places[place{it.section, it.Value}] = true, true
+		}
+	}
+	for number := range symbols {
+		if it := &symbols[number]; it.isLabel() && (names[it.name] || places[place{it.section, it.Value}]) {
+			return refuse(SymbolTwice, ".symtab", uint64(elf.Sym64Size*number))
 		}
 	}
 	return nil

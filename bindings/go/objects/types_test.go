@@ -87,6 +87,7 @@ func TestRefusedExtensions(t *testing.T) {
 		{"a line in an instruction", objects.ExtensionLines, ".BTF.ext+44", lines(exit, 4, 0, 0, 0)},
 		{"a line at a second slot", objects.ExtensionLines, "xdp+0", lines(lddw+exit, 8, 0, 0, 0)},
 		{"a text past the strings", objects.ExtensionString, ".BTF.ext+44", lines(exit, 0, 0, end, 0)},
+		{"a text inside another string", objects.ExtensionString, ".BTF.ext+44", lines(exit, 0, 0, nameText+1, 0)},
 	})
 }
 

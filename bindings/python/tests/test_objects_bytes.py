@@ -42,7 +42,7 @@ LEFT_OUT = {
     "e_flags",
     "e_phentsize",
     "bytes between sections",
-    "sh_addr, sh_addralign",
+    "sh_addralign",
     "sh_offset of sections without bytes",
     "sh_link of code, data, types and what is left out",
     "sh_info of all except relocations",
@@ -93,8 +93,8 @@ def row_name(field: str, name: str, type: int, size: int) -> str:
     """A field of the row of a section."""
     kind = "the symbol table" if type == made.SYMTAB else "relocations" if type in TABLES else "code and data"
     kind = "what is left out" if is_left_out(name) else kind
-    if field in ("sh_addr", "sh_addralign"):
-        return "sh_addr, sh_addralign"
+    if field == "sh_addralign":
+        return field
     if field == "sh_offset" and not size:
         return "sh_offset of sections without bytes"
     if field in ("sh_name", "sh_offset", "sh_size") and kind == "what is left out":
@@ -152,7 +152,7 @@ def symbol_names(file: ObjectFile) -> Iterator[str]:
     for symbol in file.symbols:
         names = spread(SYMBOL)
         if symbol.position and not symbol.is_definition:
-            kept = {"st_other", "st_size"} if symbol.position in referred(file) else set(SYMBOL)
+            kept = {"st_other"} if symbol.position in referred(file) else set(SYMBOL)
             names = ["local symbols without a row in .symtab" if it in kept else it for it in names]
         yield from names
 
@@ -219,7 +219,8 @@ OPERATIONS = [Part("struct_ops/init", EXIT, 6), Part(".struct_ops", bytes(16), 3
 LABELS = [Sym("LBB0_1", made.NOTYPE, 1, 8, 0, made.LOCAL), Sym("a.c", made.FILE, 0xFFF1, 0, 0, made.LOCAL)]
 SECTION = Sym("", made.SECTION, 2, 0, 0, made.LOCAL)
 # The offsets of the first and the last of these names differ in one bit.
-DEBUG = [Part(".debug_info"), Part(".llvm_addrsig", b"\1\2", type=0x6FFF4C03), Part(".data", b"1"), Part(".debug_line", b"/home/user")]
+DEBUG = [Part(".debug_info", fields=[("alignment", 1)]), Part(".llvm_addrsig", b"\1\2", type=0x6FFF4C03)]
+DEBUG += [Part(".data", b"1"), Part(".debug_line", b"/home/user")]
 LINES = made.extension([(XDP, [(0, 1)])], [(XDP, [(0, FILE, TEXT, 1), (8, FILE, TEXT, 2), (16, 0, TEXT, 3)])], [(XDP, [(0, 1, ACCESS, 0)])])
 BIG = made.extension([(XDP, [(0, 1)])], [(XDP, [(0, FILE, TEXT, 1), (8, 0, 0, 2)])], order=">")
 WITH_LINES = [Part("xdp", EXIT * 3, 6), Part(".BTF", types(names=SHORT)), Part(".BTF.ext", LINES)]

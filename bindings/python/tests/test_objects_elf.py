@@ -11,6 +11,8 @@ from .object_files import ALLOC, EXECINSTR, EXIT, NOBITS, REL, STRTAB, SYMTAB, P
 
 CODE = Part("xdp", EXIT, ALLOC | EXECINSTR)
 DATA = Part(".data", bytes(8), 3)
+LABEL = Sym("label", made.NOTYPE, size=0, binding=made.LOCAL)
+TARGET = LABEL._replace(name="LBB0_1")
 TABLES = [Part(".symtab", bytes(24), type=SYMTAB, link=2), Part(".strtab", b"\0", type=STRTAB)]
 
 
@@ -79,6 +81,10 @@ class Refusals(unittest.TestCase):
         rows = [
             ("past the end", "SectionCut", "x+0x0", with_tables(Part("x", b"1", fields=[("size", 1 << 40)]))),
             ("past the end by its offset", "SectionCut", "x+0x0", with_tables(Part("x", b"1", fields=[("offset", 1 << 63)]))),
+            ("zeros past the end", "SectionCut", ".bss+0x0", with_tables(Part(".bss", type=NOBITS, fields=[("offset", 1 << 63)]))),
+            ("an address", "SectionTable", "x+0x0", with_tables(Part("x", fields=[("address", 8)]))),
+            ("an alignment of 3", "SectionTable", "x+0x0", with_tables(Part("x", fields=[("alignment", 3)]))),
+            ("maps with an alignment of 16", "SectionTable", ".maps+0x0", with_tables(Part(".maps", fields=[("alignment", 16)]))),
             ("in the header", "SectionOverlap", "x+0x0", with_tables(Part("x", b"1", fields=[("offset", 63)]))),
             ("in another one", "SectionOverlap", "x+0x0", with_tables(Part("x", b"1", fields=[("offset", 88)]))),
             ("without a name", "SectionName", "file+0x0", with_tables(Part(""))),
@@ -159,6 +165,10 @@ class Refusals(unittest.TestCase):
             ("half an instruction", "SymbolPlace", place, made.file(symbols=[Sym("m", size=4)])),
             ("a variable past the end", "SymbolPlace", place, made.file(parts, [Sym("v", 1, section=2, size=9)])),
             ("two global symbols", "SymbolTwice", ".symtab+0x30", made.file(symbols=[Sym("m"), Sym("m", binding=2)])),
+            ("a label at a function", "SymbolTwice", ".symtab+0x30", made.file(symbols=[Sym("m"), LABEL])),
+            ("its name can't be read", "SymbolTwice", ".symtab+0x30", made.file(symbols=[Sym("m"), LABEL._replace(name=b"\xff")])),
+            ("one of its name elsewhere", "SymbolTwice", ".symtab+0x18", made.file(parts, [LABEL._replace(name="m", section=2), Sym("m")])),
+            ("one of clang's in data", "SymbolTwice", place, made.file(parts, [TARGET._replace(section=2), Sym("v", 1, section=2)])),
             ("overlapping functions", "FunctionOverlap", "x+0x8", made.file([longer], [Sym("a", size=16), Sym("b", value=8)])),
             ("17 names of a function", "FunctionOverlap", "xdp+0x0", made.file(symbols=[Sym(f"m{it}") for it in range(17)])),
         ]
@@ -181,6 +191,7 @@ class Refusals(unittest.TestCase):
             ("no such symbol", "RelocationSymbol", table, relocations(content=struct.pack("<QQ", 0, 2 << 32))),
             ("a symbol that is left out", "RelocationSymbol", table, made.file(parts, [Sym("", 3, 2, 0, 0, 0)], one)),
             ("a symbol without a name", "RelocationSymbol", table, made.file(symbols=[Sym(9, 0, binding=0)], relocations=one)),
+            ("a label with a size", "RelocationSymbol", table, made.file(symbols=[TARGET._replace(size=8)], relocations=one)),
             ("past the end", "RelocationPlace", table, relocations(content=struct.pack("<QQ", 8, 1 << 32))),
             ("in an instruction", "RelocationPlace", table, relocations(content=struct.pack("<QQ", 4, 1 << 32))),
             ("two for one instruction", "RelocationTwice", table, relocations(content=struct.pack("<QQ", 0, 1 << 32) * 2)),
@@ -194,6 +205,11 @@ class Refusals(unittest.TestCase):
         for name in "a.BTF", "a.BTF.ext", "a.debug_info":
             files = [made.file([CODE._replace(name=name)], relocations=[(1, [Rel(0, 1, it)])]) for it in (1, 2)]
             self.assertNotEqual(*(made.key(it) for it in files))
+
+    def test_labels_that_other_loaders_know(self) -> None:
+        """clang names the targets of jumps, one of which may be the start of a function. Assembly has labels elsewhere."""
+        symbols = [Sym("main", size=16), TARGET, LABEL._replace(value=8)]
+        self.assertEqual(made.refusal(made.file([Part("xdp", EXIT * 2, 6)], symbols)), ("", ""))
 
     def test_names_that_no_part_of_a_key_has_may_be_any(self) -> None:
         source = Sym(b"pr\xfcfung.c", made.FILE, 0xFFF1, size=0, binding=0)

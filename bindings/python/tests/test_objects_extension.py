@@ -172,6 +172,8 @@ class Refusals(unittest.TestCase):
             ("at the instruction after a wide one", "", with_extension(lines(one, (16, 0, 0, 0)), LDDW + EXIT * 2)),
             ("a file past the strings", "ExtensionString", with_extension(lines((0, len(NAMES), 0, 0)))),
             ("a text past the strings", "ExtensionString", with_extension(lines((0, 0, len(NAMES), 0)))),
+            ("a file inside another string", "ExtensionString", with_extension(lines((0, FILE + 1, 0, 0)))),
+            ("a text inside another string", "ExtensionString", with_extension(lines((0, 0, TEXT + 1, 0)))),
             ("a long text", "", with_extension(lines((0, 0, LONG, 0)))),
             ("of a section that doesn't exist", "", with_extension(lines((800, 0, 0, 0), section=INT))),
         ]

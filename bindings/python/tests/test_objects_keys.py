@@ -200,9 +200,8 @@ class Changes(unittest.TestCase):
         names = b"\0int\0" + NAMES + b"unused\0"
         moved = btf("<", ([1, *WORDS[1:]], names))
         shift = len(b"\0int\0")
-        ext = made.extension(
-            [(XDP + shift, [(0, 1)])], [(XDP + shift, [(0, 0, TEXT, 5 << 10), (16, 0, 0, 0)])], [(XDP + shift, [(0, 1, ACCESS + shift, 2)])]
-        )
+        lines = [(XDP + shift, [(0, 0, TEXT + shift, 5 << 10), (16, 0, 0, 0)])]
+        ext = made.extension([(XDP + shift, [(0, 1)])], lines, [(XDP + shift, [(0, 1, ACCESS + shift, 2)])])
         with_strings = [Part(".BTF", moved), Part(".BTF.ext", ext)]
         label, source = Sym("LBB0_1", made.NOTYPE, 1, 8, 0, made.LOCAL), Sym("b.c", made.FILE, 0xFFF1, 0, 0, made.LOCAL)
         debug = [Part(".debug_info", b"/home"), Part(".debug_info", b"/tmp"), Part(".llvm_addrsig", b"\1", type=0x6FFF4C03)]
@@ -212,7 +211,7 @@ class Changes(unittest.TestCase):
             "debugging information": made.file([*PARTS, *debug], SYMBOLS, RELOCATIONS),
             "its relocations": made.file([*PARTS, debug[0]], SYMBOLS, [*RELOCATIONS, (len(PARTS) + 1, [Rel(0, 1)])]),
             "relocations of types": made.file(PARTS, SYMBOLS, [*RELOCATIONS, (5, [Rel(0, 1)]), (6, [Rel(0, 1)])]),
-            "addresses and alignments": with_part(0, fields=[("address", 64), ("alignment", 1)]),
+            "alignments": with_part(0, fields=[("alignment", 1)]),
             "links and sizes of entries": with_part(0, fields=[("link", 1), ("info", 1), ("entry_size", 1)]),
             "bytes after the sections": BASE + b"more",
         }

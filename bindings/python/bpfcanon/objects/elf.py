@@ -185,10 +185,11 @@ def refuse_overlaps(header: Header, rows: list[Row], names: list[str], length: i
 
     If they had, the contents of a short file could be of any size, so this is checked before they are read.
     """
-    spans = [(row.offset, row.offset + row.file_size, name) for row, name in zip(rows, names) if row.file_size]
+    spans = [(row.offset, row.offset + row.file_size, name) for row, name in zip(rows, names)]
     cut = next((name for _, end, name in spans if end > length), None)
     if cut is not None:
         raise Refused("SectionCut", Place(cut))
+    spans = [it for it in spans if it[0] < it[1]]
     spans += [(0, HEADER_SIZE, ""), (header.table, header.table + ROW_SIZE * header.count, "")]
     spans.sort()
     for (_, end, _), (start, _, name) in zip(spans, spans[1:]):
@@ -198,6 +199,9 @@ def refuse_overlaps(header: Header, rows: list[Row], names: list[str], length: i
 
 def section_of(data: bytes, index: int, name: str, row: Row) -> Section:
     kind = kind_of(name, row.type, row.flags) if index else SectionKind.LEFT_OUT
+    # libbpf's loader reads neither, but other loaders and its linker do. Compilers write no others.
+    if row.address or row.alignment & (row.alignment - 1) or name == ".maps" and row.alignment != 8:
+        raise Refused("SectionTable", Place(name), "it has an address, or an alignment that isn't a power of two, or not 8 for .maps")
     content = content_of(data, row)
     return Section(index, name, kind, row.type, row.flags, row.size, row.link, row.info, row.entry_size, content)
 

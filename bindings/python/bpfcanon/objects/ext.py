@@ -104,6 +104,7 @@ class Reader:
 
     def __init__(self, content: bytes, strings: bytes, order: Order) -> None:
         self.content, self.strings, self.order, self.sign = content, strings, order, sign(order)
+        self.before = b"\0" + strings  # the byte before each one of the strings
         self.names: dict[int, str] = {}
         self.left, self.text_left = MAX_RECORDS, MAX_TEXT
 
@@ -193,12 +194,13 @@ class Reader:
         return Core(section, offset, type, self.name(access, 0), kind)
 
     def check_lines(self, run: Run) -> None:
-        """Refuse lines that aren't in the sequence of the instructions, and those whose strings the kernel refuses."""
+        """Refuse lines that aren't in the sequence of the instructions, and those whose strings the kernel or cilium/ebpf refuses."""
         words = self.words(run)
         offsets = words[0::4]
         if any(it % 8 for it in offsets) or not all(map(operator.lt, offsets, offsets[1:])):
             raise Refused("ExtensionLines", Place(".BTF.ext", run.start))
-        if max(max(words[1::4]), max(words[2::4])) >= len(self.strings):
+        texts = {*words[1::4], *words[2::4]}
+        if max(texts) >= len(self.strings) or any(map(self.before.__getitem__, texts)):
             raise Refused("ExtensionString", Place(".BTF.ext", run.start))
 
     def lines(self, runs: tuple[Run, ...]) -> Iterator[Line]:

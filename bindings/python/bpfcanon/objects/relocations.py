@@ -72,8 +72,9 @@ def read_table(elf: Elf, table: Section, target: Section, symbols: tuple[Symbol,
 
 
 def may_be_referred_to(elf: Elf, symbol: Symbol) -> bool:
-    """Whether the name of a symbol can be read, and its section is covered if it has one."""
-    return symbol.is_readable and (not symbol.section_index or elf.sections[symbol.section_index].kind.has_content)
+    """Whether the name of a symbol can be read, and what else loaders read of it is covered: its section, and its size."""
+    is_covered = not symbol.section_index or elf.sections[symbol.section_index].kind.has_content
+    return symbol.is_readable and is_covered and (symbol.is_definition or not symbol.size)
 
 
 def refuse_doubles(relocations: list[Relocation], table: Section) -> None:

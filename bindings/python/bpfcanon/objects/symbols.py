@@ -44,13 +44,16 @@ def read_symbols(elf: Elf) -> tuple[Symbol, ...]:
     """Read the symbols. Raises Refused."""
     table = symbol_table(elf)
     strings = elf.sections[table.link].content
-    found = []
+    found, labels = [], []
     for number, fields in enumerate(struct.iter_unpack(sign(elf.order) + "IBBHQQ", table.content)):
         symbol = symbol_of(elf, strings, number, fields)
         if symbol.is_definition:
             check_definition(elf, symbol)
+        elif symbol.type == STT_NOTYPE and symbol.section_index and not is_target(elf, symbol):
+            labels.append(symbol)
         found.append(symbol)
     refuse_doubles(found)
+    refuse_labels(found, labels)
     return tuple(found)
 
 
@@ -106,3 +109,17 @@ def refuse_doubles(symbols: list[Symbol]) -> None:
             if symbol.name in seen:
                 raise Refused("SymbolTwice", place_of(symbol.position))
             seen.add(symbol.name)
+
+
+def is_target(elf: Elf, symbol: Symbol) -> bool:
+    """Whether a label is the target of a jump by its name, which clang makes. Other loaders know these names."""
+    return symbol.name[:3] == "LBB" and elf.sections[symbol.section_index].kind is SectionKind.CODE
+
+
+def refuse_labels(symbols: list[Symbol], labels: list[Symbol]) -> None:
+    """Refuse a label with the name or the place of another symbol: loaders other than libbpf take it for that."""
+    taken = {key for it in symbols if it.is_definition for key in (it.name, (it.section_index, it.value))} if labels else ()
+    for it in labels:
+        is_named = it.name != "" or not it.is_readable
+        if is_named and (it.name in taken or (it.section_index, it.value) in taken):
+            raise Refused("SymbolTwice", place_of(it.position))
