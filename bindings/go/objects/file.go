@@ -63,7 +63,7 @@ func Read(data []byte) (*File, error) {
 	return &File{elf, symbols, relocations, functions}, nil
 }
 
-// Key returns the key of the file: equal keys mean that libbpf sees the same.
+// Key returns the key of the file: equal keys mean that libbpf 1.1 loads the same.
 //
 // Errors: a *Refused, whose Cause is a bpfcanon.InsnCause or bpfcanon.BTFCause for a fault in code or
 // types; bpfcanon.ErrMemory.

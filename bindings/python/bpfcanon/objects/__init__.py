@@ -1,7 +1,7 @@
 """BPF object files: a key, a manifest and what is in them.
 
-Equal keys mean that a loader which reads objects as libbpf does sees the same. docs/OBJECTS.md defines the lines of a manifest,
-of which the key is the SHA-256. Only the canonical bytes of code and types are proved; which bytes a line is made of is tested.
+Equal keys mean that libbpf 1.1 loads the same; other loaders may read more. docs/OBJECTS.md defines the lines of a manifest, of which
+the key is the SHA-256. Only the canonical bytes of code and types are proved; which bytes a line is made of is tested.
 """
 
 from .errors import Place, Refused

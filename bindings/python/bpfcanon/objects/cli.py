@@ -33,7 +33,7 @@ exit status:
 
 What is proved: two files whose lines `code` are equal have the same instructions, and two whose
 lines `types` are equal have the same types in the same order (given SHA-256).
-What isn't: which bytes of the file a line is made of. This command is tested against libbpf."""
+What isn't: which bytes of the file a line is made of. It is tested against libbpf 1.1's loader."""
 # How a shell reports a program that was ended by SIGPIPE or SIGINT.
 BROKEN_PIPE, INTERRUPTED = 128 + 13, 128 + 2
 

@@ -79,7 +79,7 @@ class ObjectFile:
         return cls(data, elf, symbols, read_relocations(elf, symbols), read_functions(elf, symbols))
 
     def key(self, *, any_order: bool = False, raw: bool = False) -> Key:
-        """Return the key: equal keys mean that libbpf sees the same.
+        """Return the key: equal keys mean that libbpf 1.1 loads the same.
 
         any_order  leaves the byte order out
         raw        covers the bytes of a section that bpfcanon refuses, instead of raising its fault
