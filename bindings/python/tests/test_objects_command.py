@@ -10,6 +10,7 @@ import multiprocessing
 import os
 import pathlib
 import pty
+import struct
 import subprocess
 import sys
 import tempfile
@@ -18,7 +19,8 @@ import unittest
 from typing import NamedTuple, Sequence
 from unittest import mock
 
-from bpfcanon.objects import cli
+from bpfcanon.objects import ObjectFile, cli
+from bpfcanon.objects.commands import limits
 from bpfcanon.objects.commands.answers import answers
 
 from . import object_files as made
@@ -67,6 +69,13 @@ def start(words: Sequence[str], **how: object) -> "subprocess.Popen[bytes]":
 def length_of(path: str, data: bytes) -> tuple[list[str], int]:
     """The work of a command that prints how long a file is."""
     return [str(len(data))], 0
+
+
+def spent(path: str, data: bytes) -> tuple[list[str], int]:
+    """Work that never ends for one file, and needs too much memory for another."""
+    while path == "other.o":
+        pass
+    return [str(len(bytearray(2 << 30)))] if path == "hidden.o" else [], 0
 
 
 class CommandTest(unittest.TestCase):
@@ -280,6 +289,22 @@ class Outputs(CommandTest):
         self.assertEqual(next(found).lines, (str(len(FILES["one.o"])),))
         del found
         self.assertEqual((threading.active_count(), multiprocessing.active_children()), (threads, []))
+
+    def test_time_and_memory_are_limited(self) -> None:
+        """A file that takes too much has no answer, and the next one has."""
+        with mock.patch.object(limits, "SECONDS", 0.1):
+            slow, large, short = answers(spent, ["other.o", "hidden.o", "one.o"], 1)
+            ran = self.run_line(f"diff -q {self.alternating(0)} {self.alternating(1)}")
+        self.assertEqual((slow.error, large.error, short.error), ("it takes more than 0.1 seconds of processor time", "out of memory", ""))
+        self.assertEqual((ran.status, ran.output), (2, ""))
+        self.assertEqual(ran.message, "bpfcanon-object: 0.o, 1.o: it takes more than 0.1 seconds of processor time\n")
+
+    def alternating(self, number: int) -> str:
+        """The name of a file with a function of which each second instruction has this number."""
+        code = b"".join(struct.pack("<BxxxiBxxxi", 0xB7, number, 0xB7, it) for it in range(2, 900)) + EXIT
+        path = self.folder / f"{number}.o"
+        path.write_bytes(made.file([Part("xdp", code, 6)], [Sym("main", size=len(code))]))
+        return path.name
 
     def test_progress_on_a_terminal(self) -> None:
         """It is written there only if the output goes elsewhere, and is removed at the end."""

@@ -14,6 +14,7 @@ from bpfcanon import BpfcanonError
 from ..cli import sentence
 from ..errors import Refused, printable
 from .files import STANDARD_INPUT, read_file
+from .limits import limited
 
 MAX_CHUNK = 32  # files that a process is given at once
 PROGRESS_SECONDS = 0.1
@@ -35,7 +36,8 @@ class Answer:
 def answer(work: Work, path: str) -> Answer:
     """Return the answer for one file. It never raises, so that one file doesn't end the work on thousands of others."""
     try:
-        lines, status = work(path, read_file(path))
+        with limited():
+            lines, status = work(path, read_file(path))
         return Answer(path, tuple(lines), status)
     except (Refused, BpfcanonError) as error:
         why = str(error)

@@ -13,6 +13,7 @@ from ..compare import Change, compare
 from ..errors import Refused, printable
 from ..model import ObjectFile
 from .files import STANDARD_INPUT, find, read_file
+from .limits import limited
 from .options import add_json
 
 
@@ -64,13 +65,14 @@ def run_folders(options: argparse.Namespace) -> int:
 def run_pair(options: argparse.Namespace, pair: Pair) -> int:
     """Compare two files. The status is 0 if they are the same, 1 if they are different, and 2 if one of them has no answer."""
     try:
-        old, new = read_object(pair.old, options.raw), read_object(pair.new, options.raw)
-        changes = list(compare(old, new, options.raw))
+        with limited():
+            old, new = read_object(pair.old, options.raw), read_object(pair.new, options.raw)
+            changes = list(compare(old, new, options.raw))
     except Trouble as error:
         complain(str(error))
         return 2
-    except Refused as error:
-        complain(f"{printable(pair.old)}, {printable(pair.new)}: {error}")
+    except (Refused, TimeoutError, MemoryError) as error:
+        complain(f"{printable(pair.old)}, {printable(pair.new)}: {error if str(error) else 'out of memory'}")
         return 2
     if changes and pair.name and not options.json:
         write([f"{printable(pair.name)}:"])
