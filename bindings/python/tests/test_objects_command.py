@@ -115,14 +115,15 @@ class Commands(CommandTest):
     def test_status_and_output(self) -> None:
         wide = "program  main  xdp  1 instructions  base32"
         head = "program main section=xdp global"
+        parts = "".join(f"{it}\n" for it in ObjectFile.read(made.file()).manifest().lines[1:])
         table = "the table of sections isn't inside the file, or doesn't have the form of one"
         rows: list[tuple[str, int, str, str]] = [
             ("list one.o", 0, f"one.o: little-endian, license none\n  {wide}\n", ""),
-            ("show one.o", 0, f"BPF object, little-endian, license none\n\n{head} groups=base32\n\texit\n", ""),
+            ("show one.o", 0, f"BPF object, little-endian, license none\n\n{head} groups=base32\n\texit\n\n{parts}", ""),
             ("diff one.o same.o", 0, "", ""),
             ("diff one.o hidden.o", 1, f"changed program main\n  @@ -1,2 +1,2 @@\n  -{head} groups=base32\n"
-             f"  +{head} hidden groups=base32\n   \texit\n", ""),
-            ("diff -q one.o hidden.o", 1, "changed program main\n", ""),
+             f"  +{head} hidden groups=base32\n   \texit\nchanged parts symbols\n", ""),
+            ("diff -q one.o hidden.o", 1, "changed program main\nchanged parts symbols\n", ""),
             ("check one.o same.o", 0, "", ""),
             ("check bad.o", 1, "bad.o:xdp+0x8: Opcode: no instruction has this opcode\n", ""),
             ("check --target base32 other.o", 1, "other.o:xdp+0x0: Group: main needs base64\n", ""),

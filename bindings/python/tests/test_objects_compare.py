@@ -6,13 +6,13 @@ import unittest
 
 from bpfcanon.objects import ObjectFile
 from bpfcanon.objects.compare import Change, compare, unified
+from bpfcanon.objects.show import show
 
 from . import object_files as made
 from .object_files import EXIT, HIDDEN, LOCAL, MOV_LITTLE, NOTYPE, OBJECT, Part, Sym
 
 MOV_ONE = bytes.fromhex("b700000001000000")  # mov r0, 1
 MOV_TWO = bytes.fromhex("b700000002000000")  # mov r0, 2
-LAYOUT = "(sequence of types or functions, or what has no name)"
 
 
 def changes(old: bytes, new: bytes) -> list[Change]:
@@ -20,8 +20,10 @@ def changes(old: bytes, new: bytes) -> list[Change]:
 
 
 def words(old: bytes, new: bytes) -> list[str]:
-    """What changed, by name."""
-    return [str(it) for it in changes(old, new)]
+    """What changed, by name, without the parts at the end."""
+    found = changes(old, new)
+    assert not found or found[-1].kind == "parts"
+    return [str(it) for it in found[:-1]]
 
 
 def with_data(content: bytes, name: str = "v", section: str = ".data", flags: int = 3) -> bytes:
@@ -54,11 +56,11 @@ class Changes(unittest.TestCase):
             self.assertEqual(changes(new, new), [])
 
     def test_lines(self) -> None:
-        (change,) = changes(made.file(), made.file([Part("xdp", EXIT, 6), Part("license", b"GPL\0", 3)]))
+        change, _ = changes(made.file(), made.file([Part("xdp", EXIT, 6), Part("license", b"GPL\0", 3)]))
         self.assertEqual(change.lines, ("@@ -1 +1 @@", "-", "+GPL"))
 
     def test_long_values_differ_after_what_is_shown(self) -> None:
-        (change,) = changes(with_data(b"\1" * 300), with_data(b"\1" * 299 + b"\2"))
+        change, _ = changes(with_data(b"\1" * 300), with_data(b"\1" * 299 + b"\2"))
         self.assertEqual(str(change), "changed variable .data:v")
         self.assertEqual([it[:9] for it in change.lines[2:]], ["-SHA-256 ", "+SHA-256 "])
 
@@ -67,10 +69,13 @@ class Changes(unittest.TestCase):
         self.assertEqual(words(with_two(MOV_ONE, MOV_TWO), with_two(MOV_TWO, MOV_TWO)), ["changed function helper"])
 
     def test_what_has_no_name(self) -> None:
-        """The lines of the manifests that differ, if all texts are the same."""
-        (change,) = changes(with_data(b"\1"), with_data(b"\1", flags=1))
-        self.assertEqual((change.kind, change.name, change.word), ("layout", LAYOUT, "changed"))
-        self.assertEqual([it.rpartition(" ")[0] for it in change.lines], ["-sections", "+sections"])
+        """The parts that differ come last, whether a change that has a name is in them or not."""
+        self.assertEqual(list(map(str, changes(with_data(b"\1"), with_data(b"\1", flags=1)))), ["changed parts sections"])
+        symbols = [Sym("main"), Sym("v", OBJECT, 2, 1, 1)]
+        ports = [made.file([Part("xdp", EXIT, 6), Part(".rodata", it, 2)], symbols) for it in (b"5v", b"6v", b"6w")]
+        self.assertEqual(list(map(str, changes(*ports[:2]))), ["changed parts data .rodata"])
+        self.assertEqual(list(map(str, changes(*ports[1:]))), ["changed variable .rodata:v", "changed parts data .rodata"])
+        self.assertNotEqual(*(list(show(ObjectFile.read(it))) for it in ports[:2]))
         unnamed = [made.file([Part("xdp", it + EXIT, 6)], [Sym("main", value=8)]) for it in (MOV_LITTLE, MOV_ONE)]
         self.assertEqual(words(*unnamed), ["changed function xdp+0x0"])
 

@@ -20,7 +20,7 @@ CONTEXT = 2  # lines around a difference
 class Change:
     """Something that differs.
 
-    kind   what it is: program, function, map, variable, type, ..
+    kind   what it is: program, function, map, variable, type, ..; parts: the lines of the manifest, by their first words
     name   what it is called
     word   added, removed or changed
     lines  the lines of a unified diff, if it is changed
@@ -70,17 +70,16 @@ def variable_texts(listing: Listing) -> Iterator[tuple[str, str, list[str]]]:
 
 
 def compare(old: ObjectFile, new: ObjectFile, raw: bool = False) -> Iterator[Change]:
-    """Yield the changes, by name; none if and only if the lines of both manifests are equal. Raises Refused."""
-    before, after = old.manifest(raw=raw).lines, new.manifest(raw=raw).lines
-    if before == after:
+    """Yield the changes, by name, and then the parts that differ; nothing if and only if no part does. Raises Refused.
+
+    Not all that differs has a name: the sequence of types or functions, bytes of data that belong to no variable, the binding of a symbol.
+    """
+    differing = old.manifest(raw=raw).differing(new.manifest(raw=raw))
+    if not differing:
         return
     one, two = texts(old), texts(new)
-    changes = [change(*key, one.get(key), two.get(key)) for key in dict.fromkeys([*one, *two]) if one.get(key) != two.get(key)]
-    yield from changes
-    if not changes:
-        common = set(before) & set(after)
-        lines = [f"-{it}" for it in before if it not in common] + [f"+{it}" for it in after if it not in common]
-        yield Change("layout", "(sequence of types or functions, or what has no name)", "changed", tuple(lines))
+    yield from (change(*key, one.get(key), two.get(key)) for key in dict.fromkeys([*one, *two]) if one.get(key) != two.get(key))
+    yield Change("parts", ", ".join(differing), "changed")
 
 
 def change(kind: str, name: str, first: Optional[list[str]], second: Optional[list[str]]) -> Change:

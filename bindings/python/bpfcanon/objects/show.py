@@ -17,7 +17,7 @@ from .values import Values
 
 
 def show(object: ObjectFile, offsets: bool = False, source: bool = False) -> Iterator[str]:
-    """Yield the lines of the listing. Raises Refused.
+    """Yield the lines of the listing, and then those of the manifest: two listings are equal only if no part differs. Raises Refused.
 
     Nothing in it depends on the layout of the file, except what `offsets` adds: the offset of each instruction in its section.
     `source` adds the lines of source of .BTF.ext.
@@ -32,6 +32,16 @@ def show(object: ObjectFile, offsets: bool = False, source: bool = False) -> Ite
         yield ""
         for lines in listing.notation.definitions().values():
             yield from lines
+    yield ""
+    yield from part_lines(object)
+
+
+def part_lines(object: ObjectFile) -> Iterator[str]:
+    """Yield the lines of the manifest, with the bytes of what is refused, or why there is none."""
+    try:
+        yield from object.manifest(raw=True).lines[1:]
+    except Refused as error:
+        yield f"fault {error}"
 
 
 def head_lines(object: ObjectFile) -> Iterator[str]:
