@@ -8,7 +8,7 @@ import (
 )
 
 // A Refused is why an object file has no key, and where. errors.Is compares it with a cause, and
-// errors.As finds its place.
+// errors.As finds its place. It also finds the *bpfcanon.FaultError of a fault in code or types.
 type Refused struct {
 	// Cause is a Cause of this package, or the bpfcanon.InsnCause or bpfcanon.BTFCause of a fault in
 	// code or types.
@@ -19,6 +19,8 @@ type Refused struct {
 	Offset uint64
 	// Text says what is wrong.
 	Text string
+
+	fault *bpfcanon.FaultError // nil for a Cause of this package
 }
 
 // Error returns the place, the name of the cause and what is wrong.
@@ -30,8 +32,12 @@ func (r *Refused) Error() string {
 	return fmt.Sprintf("objects: %s+%#x: %s: %s", section, r.Offset, r.Cause.String(), r.Text)
 }
 
-// Unwrap returns the cause.
+// Unwrap returns the *bpfcanon.FaultError of a fault in code or types, which wraps the cause, and
+// otherwise the cause.
 func (r *Refused) Unwrap() error {
+	if r.fault != nil {
+		return r.fault
+	}
 	return r.Cause
 }
 
@@ -91,12 +97,12 @@ var (
 
 // refuse returns a Refused with the sentence of its cause.
 func refuse(cause Cause, section string, offset uint64) error {
-	return &Refused{cause, section, offset, cause.text}
+	return &Refused{Cause: cause, Section: section, Offset: offset, Text: cause.text}
 }
 
 // refuseAs returns a Refused with a sentence of its own.
 func refuseAs(cause Cause, section string, offset uint64, format string, values ...any) error {
-	return &Refused{cause, section, offset, fmt.Sprintf(format, values...)}
+	return &Refused{Cause: cause, Section: section, Offset: offset, Text: fmt.Sprintf(format, values...)}
 }
 
 // refusalOf returns the Refused for a fault of package bpfcanon in a section, or the error itself if
@@ -104,7 +110,7 @@ func refuseAs(cause Cause, section string, offset uint64, format string, values 
 func refusalOf(err error, section string) error {
 	var fault *bpfcanon.FaultError
 	if errors.As(err, &fault) {
-		return &Refused{fault.Cause, section, fault.Pos, fault.Cause.Error()}
+		return &Refused{fault.Cause, section, fault.Pos, fault.Cause.Error(), fault}
 	}
 	return err
 }

@@ -41,6 +41,11 @@ func testRefusals(t *testing.T, rows []refusal) {
 			if !errors.Is(err, row.cause) || place != row.place {
 				t.Errorf("%v at %s, want %s at %s", err, place, row.cause.String(), row.place)
 			}
+			var fault *bpfcanon.FaultError
+			_, isOwn := row.cause.(objects.Cause)
+			if isFault := errors.As(err, &fault); isFault == isOwn || isFault && fault.Pos != refused.Offset {
+				t.Errorf("%v is the fault %v", err, fault)
+			}
 		})
 	}
 }

@@ -4,7 +4,7 @@ from __future__ import annotations
 
 import unittest
 
-from bpfcanon import Order
+from bpfcanon import BpfcanonError, BtfCause, Fault, InsnCause, Order
 from bpfcanon.objects import ObjectFile
 
 from . import object_files as made
@@ -49,6 +49,9 @@ class Model(unittest.TestCase):
         parts += [Part(".BTF", b"\0" * 24), Part(".BTF.ext", b"x")]
         found = ObjectFile.read(made.file(parts, ())).faults()
         self.assertEqual([str(it.place) for it in found], ["a+0x0", "c+0x8", ".BTF+0x0"])
+        self.assertTrue(all(isinstance(it, BpfcanonError) for it in found))
+        causes = [(it.__cause__.cause, it.__cause__.pos) for it in found if isinstance(it.__cause__, Fault)]
+        self.assertEqual(causes, [(InsnCause.OPCODE, 0), (InsnCause.TRUNCATED, 8), (BtfCause.MAGIC, 0)])
 
 
 if __name__ == "__main__":

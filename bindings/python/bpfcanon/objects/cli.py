@@ -10,8 +10,8 @@ import os
 import sys
 from typing import IO, Any, Iterable, Optional, Sequence
 
-from .errors import Refused, printable
-from .manifest import ManifestError
+from ..errors import BpfcanonError
+from .errors import printable
 
 NAME = "bpfcanon-object"
 STANDARD_OUTPUT = "standard output"
@@ -81,7 +81,7 @@ def run(words: Sequence[str]) -> int:
     try:
         options = parser(words).parse_args(words)
         return int(module(options.command).run(options))
-    except (ManifestError, Refused) as error:
+    except BpfcanonError as error:
         complain(str(error))
     except BrokenPipeError:
         raise

@@ -4,6 +4,8 @@ from __future__ import annotations
 
 from dataclasses import dataclass
 
+from ..errors import BpfcanonError
+
 CAUSES = {
     "TooLarge": "the file is larger than the limit",
     "NotElf": "the file isn't an ELF file",
@@ -61,8 +63,8 @@ def printable(text: str) -> str:
     return text if text.isprintable() else text.encode("unicode_escape", "surrogateescape").decode()
 
 
-class Refused(Exception):
-    """An input without a key: the cause is one of CAUSES, or the label of a fault of bpfcanon."""
+class Refused(BpfcanonError):
+    """An input without a key: the cause is one of CAUSES, or the label of a Fault of bpfcanon, which is then its __cause__."""
 
     def __init__(self, cause: str, place: Place = Place(), text: str = "") -> None:
         super().__init__(cause, place, text)

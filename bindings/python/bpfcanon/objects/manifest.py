@@ -7,6 +7,7 @@ import re
 from dataclasses import dataclass
 from typing import Iterable
 
+from ..errors import BpfcanonError
 from .keys import FIRST, PLAIN_WORD, Key
 
 DIGEST = "[0-9a-f]{64}"
@@ -18,7 +19,7 @@ LINE = re.compile(
 )
 
 
-class ManifestError(Exception):
+class ManifestError(BpfcanonError):
     """A manifest that doesn't have the form of one."""
 
 

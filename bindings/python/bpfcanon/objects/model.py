@@ -7,7 +7,7 @@ from functools import cached_property
 from typing import TYPE_CHECKING
 
 import bpfcanon
-from bpfcanon import BpfcanonError, Fault, Group, Order, UnknownCause
+from bpfcanon import BpfcanonError, Fault, Group, Order
 
 from .elf import Elf, Section, read_elf
 from .errors import Place, Refused, printable
@@ -53,12 +53,14 @@ class Variable:
 
 
 def refusal(error: BpfcanonError, section: str) -> Refused:
-    """What a fault of bpfcanon is for an object file."""
-    if isinstance(error, Fault):
-        return Refused(error.cause.label, Place(section, error.pos), error.cause.text)
-    if isinstance(error, UnknownCause):
-        return Refused(f"Cause{error.number}", Place(section, error.pos), "a cause that this version doesn't know")
-    raise error
+    """What a fault of bpfcanon is for an object file; a Refused is one already. Raises other errors."""
+    if isinstance(error, Refused):
+        return error
+    if not isinstance(error, Fault):
+        raise error
+    refused = Refused(error.cause.label, Place(section, error.pos), error.cause.text)
+    refused.__cause__ = error.with_traceback(None)
+    return refused
 
 
 @dataclass(frozen=True)
@@ -128,8 +130,6 @@ class ObjectFile:
             check_words(section.content, canonical, self.order)
         except BpfcanonError as error:
             return refusal(error, ".BTF")
-        except Refused as error:
-            return error
         return canonical
 
     @cached_property

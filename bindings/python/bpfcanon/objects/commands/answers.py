@@ -12,7 +12,7 @@ from typing import Callable, Iterator
 from bpfcanon import BpfcanonError
 
 from ..cli import sentence
-from ..errors import Refused, printable
+from ..errors import printable
 from .files import STANDARD_INPUT, read_file
 from .limits import limited
 
@@ -39,7 +39,7 @@ def answer(work: Work, path: str) -> Answer:
         with limited():
             lines, status = work(path, read_file(path))
         return Answer(path, tuple(lines), status)
-    except (Refused, BpfcanonError) as error:
+    except BpfcanonError as error:
         why = str(error)
     except OSError as error:
         why = error.strerror or sentence(error)
