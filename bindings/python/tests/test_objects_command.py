@@ -366,6 +366,8 @@ class Manifests(CommandTest):
         os.mkfifo(self.folder / "pipe")
         for name in b"pipe", b"-", b"/dev/stdin", b"/dev/zero":
             self.assertEqual(self.verify(self.manifest("one.o").replace(b"file one.o", b"file " + name)).status, 2, name)
+        os.symlink("one.o", self.folder / "link")
+        self.assertEqual(self.verify(self.manifest("one.o").replace(b"one.o", b"link")), Ran(0, "link: ok\n", ""))
 
     def test_each_changed_byte_is_refused_or_differs(self) -> None:
         text = self.manifest("one.o")
