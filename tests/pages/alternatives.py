@@ -30,7 +30,10 @@ COMMANDS = {
     ],
     '`-ffile-prefix-map="$PWD"=/src`, and there is no `/src`': [f"{HIDDEN}; {TYPES}"],
     "no `-g`": [f"{CLANG} -c pass.c -o out"],
-    "`clang -E -P`, and compile what it prints": [f"clang -E -P pass.c | {CLANG} -g -x c -c -o out -"],
+    "`clang -E -P`, and compile what it prints": [
+        f"clang -E -P pass.c | {CLANG} -g -x c -c -o out -",
+        f"clang -E -P pass.c > pass.i; {CLANG} -g -c pass.i -o out",
+    ],
     "`llvm-strip -g`, `bpftool gen object`": [
         f"{CLANG} -g -c pass.c -o object.o; llvm-strip -g object.o; {TYPES}",
         f"{CLANG} -g -c pass.c -o first.o; bpftool gen object object.o first.o; {TYPES}",
@@ -71,6 +74,11 @@ def check_commands(report, table, folder):
     (dump,) = COMMANDS["`bpftool btf dump file after.o format raw`"]
     report.expect_that(made(dump, after, folder) == made(dump, other, folder), dump, "it is another one for `return 1;`")
     report.expect_that(made(MOVING, before, folder) != made(MOVING, MOVED, folder), MOVING, "it is equal after a line was moved")
+    piped, kept = COMMANDS["`clang -E -P`, and compile what it prints"]
+    report.expect_that(made(piped, before, folder) != made(piped, f"/* a note */\n{before}", folder), piped, "it is equal after a first comment")
+    # What a verifier's log shows is in .BTF.
+    has_lines = [b"return 2;" in made(command, before, folder) for command in (piped, kept)]
+    report.expect_that(has_lines == [False, True], piped, f"that the file has the line of source is {has_lines}, the second time not piped")
 
 
 def check_refused(report, table, folder):
