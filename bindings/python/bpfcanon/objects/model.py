@@ -2,6 +2,7 @@
 
 from __future__ import annotations
 
+import bisect
 from dataclasses import dataclass
 from functools import cached_property
 from typing import TYPE_CHECKING
@@ -162,7 +163,7 @@ class ObjectFile:
         """Refuse a line of the second slot of a wide instruction, as the kernel does."""
         for name, offsets in extension.line_offsets.items():
             content = self.code_content.get(name, b"")
-            if not all(content[it] for it in offsets if it < len(content)):
+            if not all(map(content.__getitem__, offsets[: bisect.bisect_left(offsets, len(content))])):
                 raise Refused("ExtensionLines", Place(name))
 
     @cached_property
