@@ -5,19 +5,18 @@ use Rattle.std.specs.List.{AllZip, concat}
 use Rattle.std.proofs.lemmas.List.{drop-drop, drop_at, drop_all, get_or-append_right}
 use Rattle.std.proofs.lemmas.List.Concat.{flat_map-append}
 use Rattle.std.proofs.lemmas.List.Elements.{All-get_or}
-use Rattle.std.proofs.lemmas.Option.{slice_get-get_or, get_or_from_slice_get}
+use Rattle.std.proofs.lemmas.Option.{slice_get-get_or}
 use Rattle.bpf_words.specs.{declared.Order.Order, Words.word32_at, Words.word32}
 use Rattle.bpf_words.proofs.WordLemmas.{word32_at-drop}
-use Rattle.btf_raw.specs.{Frames.bytes_of, Header.HasNulEnds, Kinds.flag_of, Names.TextAt, Names.NameAt}
+use Rattle.btf_raw.specs.{Frames.bytes_of, Header.HasNulEnds, Header.strings_at as header_strings, Kinds.flag_of, Names.TextAt, Names.NameAt}
 use Rattle.btf_raw.proofs.Frames.{length-bytes_of, word32_at-bytes_of}
-use Rattle.btf_types.specs.Values.{TypeHead, KStruct, KUnion, KEnum, KFuncProto, KDatasec, KEnum64, TypeItem, Member, EnumValue, Value64, Param, Entry, TypeRecord}
+use Rattle.btf_types.specs.Values.{TypeItem, Member, EnumValue, Value64, Param, Entry, TypeRecord}
 use Rattle.btf_types.specs.{Names.head_name, Names.item_name, Spelling.IsRecord, Spelling.Spells, Spelling.ItemSpells, Spelling.MemberWord, Spelling.head_tail, Spelling.head_third, Spelling.info, Spelling.kind_number, Spelling.record_vlen}
-use Rattle.btf_types.specs.{Good.IsGood, Good.IsGoodRecord, Good.ItemOf, Good.facts, tables.TableWords.record_at}
 use Rattle.btf_types.proofs.Spelled.{info_parts, kind_below, vlen_below, flag_below}
 use Rattle.bpfcanon_c.specs.declared.btf_rows.ItemRow.{ItemRow}
-use Rattle.bpfcanon_c.specs.{BtfRows.bare_item, BtfRows.item_parts}
-use Rattle.bpfcanon_c.specs.BtfRest.{Rest, head_bytes, item_bytes, item_kind, item_name_at, words_row, low_part, high_part}
-use Rattle.bpfcanon_c.proofs.BtfRows.{cut_at, record_is}
+use Rattle.bpfcanon_c.specs.BtfRows.{bare_item, item_name_off, item_parts}
+use Rattle.bpfcanon_c.specs.BtfRest.{Rest, head_bytes, item_bytes, item_name_at, words_row, low_part, high_part}
+use Rattle.bpfcanon_c.proofs.BtfRows.{cut_at}
 
 -- the first word that is left, and what is left after these words
 record WordsHere (o : Order) (bytes : List ℕ) (at first count : ℕ) (words after : List ℕ) : Type 0 where
@@ -118,6 +117,7 @@ first_words o bytes at strings_at flag i is v r first second more words e zip =
         fit = all.fit;
         types = r.types;
         here = all.left;
+        strings_are = r.strings_are;
         named = r.named;
         short = r.short;
         ends = r.ends;
@@ -238,8 +238,16 @@ pub record NextItem (o : Order) (bytes : List ℕ) (at strings_at kind flag : �
   pub fields : item_parts item ≡ words_row kind flag (word32_at o bytes at) (word32_at o bytes (at + 4)) (word32_at o bytes (at + 8))
   pub fits : item_name_at kind strings_at (word32_at o bytes at) < 2 ^ 32
   pub named : NameAt bytes (item_name_at kind strings_at (word32_at o bytes at)) (item_name item)
+  pub place : item_name_at kind strings_at (word32_at o bytes at) ≡ header_strings o bytes + item_name_off o bytes (at, item)
   pub long : length (item_name item) < 2 ^ 32
   pub rest : Rest o bytes (at + item_bytes kind) strings_at flag (drop (k + 1) is) v
+
+name_place : (o : Order) (bytes : List ℕ) (at strings_at : ℕ) (i : TypeItem) → item_name_at (item_parts i).kind strings_at (word32_at o bytes at) ≡ strings_at + item_name_off o bytes (at, i)
+name_place o bytes at strings_at (Member name target bit_offset width) = refl
+name_place o bytes at strings_at (EnumValue name value) = refl
+name_place o bytes at strings_at (Value64 name value) = refl
+name_place o bytes at strings_at (Param name target) = refl
+name_place o bytes at strings_at (Entry target offset size) = sym (add-zero strings_at)
 
 of_kind : (o : Order) (bytes : List ℕ) (at strings_at kind flag : ℕ) (is : List TypeItem) (k : ℕ) (v : List TypeRecord) (i : TypeItem) → slice_get is k ≡ Some i → (item_parts i).kind ≡ kind
     → TakesItem o bytes at strings_at flag i (drop (k + 1) is) v → NextItem o bytes at strings_at kind flag is k v
@@ -253,6 +261,10 @@ of_kind o bytes at strings_at kind flag is k v i there same t =
       fields = subst (λ (n : ℕ). item_parts i ≡ words_row n flag (word32_at o bytes at) (word32_at o bytes (at + 4)) (word32_at o bytes (at + 8))) same t.fields;
       fits = subst (λ (n : ℕ). item_name_at n strings_at (word32_at o bytes at) < 2 ^ 32) same t.fits;
       named = subst (λ (n : ℕ). NameAt bytes (item_name_at n strings_at (word32_at o bytes at)) (item_name i)) same t.named;
+      place =
+          ap (λ (n : ℕ). item_name_at n strings_at (word32_at o bytes at)) (sym same)
+          ∙ name_place o bytes at strings_at i
+          ∙ ap (λ (n : ℕ). n + item_name_off o bytes (at, i)) t.rest.strings_are;
       long = t.long;
       rest = subst (λ (n : ℕ). Rest o bytes (at + item_bytes n) strings_at flag (drop (k + 1) is) v) same t.rest;
     }
@@ -285,26 +297,11 @@ ended o bytes at strings_at flag is k v h r =
       fit = left.fit;
       types = left.types;
       here = left.here;
+      strings_are = left.strings_are;
       named = left.named;
       short = left.short;
       ends = left.ends;
     }
-
--- items of the kind that the head requires
-kind_fits : (h : TypeHead) (i : TypeItem) → ItemOf h i → (item_parts i).kind ≡ item_kind h
-kind_fits (KStruct name size) (Member n target bit_offset width) f = refl
-kind_fits (KUnion name size) (Member n target bit_offset width) f = refl
-kind_fits (KEnum name signed size) (EnumValue n value) f = refl
-kind_fits (KEnum64 name signed size) (Value64 n value) f = refl
-kind_fits (KFuncProto target) (Param n t) f = refl
-kind_fits (KDatasec name size) (Entry target offset bytes) f = refl
-kind_fits h i f = absurd f
-
-pub kinds_fit : (v : List TypeRecord) (k : ℕ) → IsGood v → k < length v → All (λ i. (item_parts i).kind ≡ item_kind (record_at v (k + 1)).head) (record_at v (k + 1)).items
-kinds_fit v k good h =
-    let r = record_at v (k + 1) in
-    let is_good : IsGoodRecord (facts v) r = subst (λ (x : TypeRecord). IsGoodRecord (facts v) x) (get_or_from_slice_get v k r r (record_is v k h)) (All-get_or (IsGoodRecord (facts v)) v k r h good.each) in
-    λ n d inside. kind_fits r.head _ (is_good.items_of n d inside)
 
 -- ---- a record
 
@@ -371,6 +368,7 @@ take_head o bytes at strings_at r v rest =
         fit = w.fit;
         types = c.zip;
         here = ap (λ (n : ℕ). drop (at + n) bytes) (sym len) ∙ w.left;
+        strings_are = rest.strings_are;
         named = rest.named;
         short = rest.short;
         ends = rest.ends;

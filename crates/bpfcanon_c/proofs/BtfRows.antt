@@ -1,5 +1,5 @@
 -- The records of types and items: one more of them.
-use Rattle.std.proofs.Common.{◌≡◌, ◌<◌, ◌≤◌, ◌+◌, ◌-◌, ◌++◌, ◌∙◌, ℕ, suc, Some, List, [], ◌∷◌, length, take, drop, get_or, refl, sym, ap, arith, length-append, subst, add-one, zero-add}
+use Rattle.std.proofs.Common.{◌≡◌, ◌<◌, ◌≤◌, ◌+◌, ◌-◌, ◌++◌, ◌∙◌, ℕ, suc, Some, List, [], ◌∷◌, length, take, drop, get_or, sym, ap, arith, subst, add-one}
 use Rattle.std.specs.Prelude.{slice_get, unwrap_or}
 use Rattle.std.specs.List.{AllZip}
 use Rattle.std.proofs.Math.ListN.{set}
@@ -9,11 +9,12 @@ use Rattle.std.proofs.lemmas.List.Concat.{flat_map-append}
 use Rattle.std.proofs.lemmas.List.Folds.{length-flat_map-take}
 use Rattle.std.proofs.lemmas.Option.{slice_get-get_or, get_or_from_slice_get}
 use Rattle.bpf_text.proofs.InsnLemmas.ZipLemmas.{zip_push}
-use Rattle.btf_raw.specs.Names.{NameAt}
+use Rattle.bpf_words.specs.{declared.Order.Order, Words.word32_at}
+use Rattle.btf_raw.specs.{Header.strings_at, Names.NameAt}
 use Rattle.btf_types.specs.Values.{TypeHead, TypeItem, TypeRecord}
 use Rattle.btf_types.specs.{Names.head_name, Names.item_name, tables.TableWords.record_at, tables.TableWords.no_record}
 use Rattle.bpfcanon_c.specs.declared.btf_rows.{TypeRow.TypeRow, ItemRow.ItemRow}
-use Rattle.bpfcanon_c.specs.BtfRows.{SaysItem, SaysType, item_row, type_row, items_of, with_firsts}
+use Rattle.bpfcanon_c.specs.BtfRows.{SaysItem, SaysType, PlacedType, item_name_off, item_row, items_of, type_row}
 
 -- ---- one element more
 
@@ -60,34 +61,23 @@ items_within v k h =
     let e : get_or v k r ≡ r = get_or_from_slice_get v k r r (record_is v k h) in
     subst (λ (x : TypeRecord). length (items_of (take k v)) + length x.items ≤ length (items_of v)) e (length-flat_map-take (λ (r : TypeRecord). r.items) v k r h)
 
-firsts_push : (at : ℕ) (v : List TypeRecord) (r : TypeRecord) → with_firsts at (v ++ r ∷ []) ≡ with_firsts at v ++ (at + length (items_of v), r) ∷ []
-firsts_push at [] r = ap (λ (n : ℕ). (n, r) ∷ []) (omega arith)
-firsts_push at (x ∷ v) r =
-    ap (λ (rest : List (ℕ × TypeRecord)). (at, x) ∷ rest) (firsts_push (at + length x.items) v r ∙ ap (λ (n : ℕ). with_firsts (at + length x.items) v ++ (n, r) ∷ []) (omega (arith, length-append x.items (items_of v))))
-
-pub firsts_more : (v : List TypeRecord) (k : ℕ) → k < length v
-    → with_firsts 0 (take (k + 1) v) ≡ with_firsts 0 (take k v) ++ (length (items_of (take k v)), record_at v (k + 1)) ∷ []
-firsts_more v k h =
-    let r = record_at v (k + 1) in
-    ap (with_firsts 0) (more_at v k r h (record_is v k h)) ∙ firsts_push 0 (take k v) r
-    ∙ ap (λ (n : ℕ). with_firsts 0 (take k v) ++ (n, r) ∷ []) (zero-add (length (items_of (take k v))))
-
-pub length-firsts : (at : ℕ) (v : List TypeRecord) → length (with_firsts at v) ≡ length v
-length-firsts at [] = refl
-length-firsts at (r ∷ v) = ap suc (length-firsts (at + length r.items) v)
-
 -- ---- what a record says
 
-pub says_item : (bytes : List ℕ) (row : ItemRow) (name : ℕ) (i : TypeItem) → row ≡ item_row name i → NameAt bytes name (item_name i) → SaysItem bytes row i
-says_item bytes row name i e t =
-    let same : row.name ≡ name = ap (λ (x : ItemRow). x.name) e in
-    record { form = e ∙ ap (λ (n : ℕ). item_row n i) (sym same); named = subst (λ (n : ℕ). NameAt bytes n (item_name i)) (sym same) t }
+pub says_item : (o : Order) (bytes : List ℕ) (row : ItemRow) (name at : ℕ) (i : TypeItem) → row ≡ item_row name i → name ≡ strings_at o bytes + item_name_off o bytes (at, i)
+    → NameAt bytes name (item_name i) → SaysItem o bytes row (at, i)
+says_item o bytes row name at i e place t =
+    let same : name ≡ row.name = sym (ap (λ (x : ItemRow). x.name) e) in
+    record { form = e ∙ ap (λ (n : ℕ). item_row n i) place; named = subst (λ (n : ℕ). NameAt bytes n (item_name i)) same t }
 
-pub says_type : (bytes : List ℕ) (row : TypeRow) (name first count : ℕ) (head : TypeHead) (r : TypeRecord) → row ≡ type_row name first count head
-    → head ≡ r.head → count ≡ length r.items → NameAt bytes name (head_name r.head) → SaysType bytes row (first, r)
-says_type bytes row name first count head r e h c t =
-    let same : row.name ≡ name = ap (λ (x : TypeRow). x.name) e in
+pub says_type : (o : Order) (bytes : List ℕ) (row : TypeRow) (name first count : ℕ) (head : TypeHead) (t : PlacedType) → row ≡ type_row name first count head
+    → name ≡ strings_at o bytes + word32_at o bytes t.at → first ≡ t.first → head ≡ t.type.head → count ≡ length t.type.items → NameAt bytes name (head_name t.type.head) → SaysType o bytes row t
+says_type o bytes row name first count head t e place f h c n =
+    let same : name ≡ row.name = sym (ap (λ (x : TypeRow). x.name) e) in
     record {
-      form = e ∙ ap (λ (x : TypeHead). type_row name first count x) h ∙ ap (λ (n : ℕ). type_row name first n r.head) c ∙ ap (λ (n : ℕ). type_row n first (length r.items) r.head) (sym same);
-      named = subst (λ (n : ℕ). NameAt bytes n (head_name r.head)) (sym same) t;
+      form =
+          e ∙ ap (λ (x : ℕ). type_row x first count head) place
+          ∙ ap (λ (x : ℕ). type_row (strings_at o bytes + word32_at o bytes t.at) x count head) f
+          ∙ ap (λ (x : TypeHead). type_row (strings_at o bytes + word32_at o bytes t.at) t.first count x) h
+          ∙ ap (λ (x : ℕ). type_row (strings_at o bytes + word32_at o bytes t.at) t.first x t.type.head) c;
+      named = subst (λ (x : ℕ). NameAt bytes x (head_name t.type.head)) same n;
     }

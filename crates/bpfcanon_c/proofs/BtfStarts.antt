@@ -74,18 +74,20 @@ named_in b pos len strings e within offset name t =
       is_there = cut ∙ ap (λ (x : List ℕ). front ++ (x ++ rest)) t.is_there ∙ simp append_assoc;
     }
 
-pub record Starts (b : List ℕ) (h : Header) (v : List TypeRecord) : Type 0 where
+pub record Starts (b : List ℕ) (h : Header) (v : List TypeRecord) (d : Denotes b v) : Type 0 where
+  pub order : h.order ≡ d.order
   pub rest : Rest h.order b h.types_pos h.str_pos 0 [] v
   pub fits : 12 * length v + 8 * length (items_of v) ≤ length b
   pub short : length b ≤ 50335744
   pub strings_short : h.str_pos < 2 ^ 32
 
-pub starts : (b : List ℕ) (h : Header) (v : List TypeRecord) → ReadsHeader b h → Denotes b v → Starts b h v
+pub starts : (b : List ℕ) (h : Header) (v : List TypeRecord) → ReadsHeader b h → (d : Denotes b v) → Starts b h v d
 starts b h v reads d =
     let same = cut_unique b d.order h.order d.types d.strings (part b h.types_pos h.types_len) (part b h.str_pos h.str_len) d.cut reads.cut in
     let long = cut_long b d.order d.types d.strings d.cut in
     let strings_long : length d.strings ≤ h.str_len = omega (arith, ap length same.strings, length-take h.str_len (drop h.str_pos b)) in
     record {
+      order = sym same.order;
       rest = record {
         strings = d.strings;
         words = [];
@@ -97,6 +99,7 @@ starts b h v reads d =
         here =
             sym (take-append-drop h.types_len (drop h.types_pos b))
             ∙ ap (λ (x : List ℕ). x ++ drop h.types_len (drop h.types_pos b)) (sym same.types ∙ d.whole);
+        strings_are = reads.str_pos;
         named = λ offset name n. record { text = named_in b h.str_pos h.str_len d.strings same.strings (omega (arith, reads.strings_there)) offset name n.text; utf8 = n.utf8 };
         short = omega (arith, strings_long, reads.strings_there, long.short);
         ends = d.nul_ends;

@@ -22,7 +22,8 @@ use Rattle.bpf_insn.specs.{Table.IsInsn, Faults.BeginsWith}
 use Rattle.bpf_insn.specs.Spelling.{spelling, second_slot}
 use Rattle.bpfcanon_c.specs.declared.insn_rows.InsnRow.{InsnRow}
 use Rattle.bpfcanon_c.specs.InsnRows.{form_row, alu_number}
-use Rattle.bpfcanon_c.specs.InsnEncoding.{SaysInsn, SameParts, SameNumbers, raw_fields, raw_next, raw_bytes}
+use Rattle.bpfcanon_c.specs.InsnEncoding.{SaysInsn, SameParts, SameNumbers}
+use Rattle.bpfcanon_c.specs.RawEncoding.{raw_fields, raw_next, raw_bytes}
 
 small_register : (r : Reg) → register_number r % 16 ≡ register_number r
 small_register r = let h = r.in_range in omega arith

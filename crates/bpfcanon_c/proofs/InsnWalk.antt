@@ -15,7 +15,7 @@ use Rattle.bpf_insn.proofs.{FrontLemmas.length-at_most_file, FileLaws.at_most_tw
 use Rattle.bpf_text.proofs.InsnLemmas.ZipLemmas.{zip_push}
 use Rattle.bpf_canon.proofs.InsnLemmas.FrontLaws.{length-file_same}
 use Rattle.bpfcanon_c.specs.declared.insn_rows.InsnRow.{InsnRow}
-use Rattle.bpfcanon_c.specs.{InsnRows.row_at, InsnRows.rows_from, InsnDecoding.IsDecoded, InsnEncoding.SaysInsn, InsnEncoding.raw_bytes, InsnEncoding.IsEncoded}
+use Rattle.bpfcanon_c.specs.{InsnRows.row_at, InsnRows.rows_from, InsnDecoding.IsDecoded, InsnEncoding.SaysInsn, InsnEncoding.IsEncoded, RawEncoding.raw_bytes}
 use Rattle.bpfcanon_c.specs.InsnSteps.{HasInsns, DecodesTo, SayInsns, EncodesTo}
 use Rattle.bpfcanon_c.proofs.{InsnRows.rows_push, InsnRows.length-rows, InsnEncoding.raw_is}
 

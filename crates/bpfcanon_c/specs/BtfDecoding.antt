@@ -6,14 +6,14 @@ use Rattle.bpfcanon_c.specs.declared.answer.{Answer.Answer}
 use Rattle.bpfcanon_c.specs.declared.btf_rows.{TypeRow.TypeRow, ItemRow.ItemRow}
 use Rattle.bpfcanon_c.specs.declared.btf_decode.RowsEnding.{RowsEnding, TheVariants.Decoded, TheVariants.Faulty, TheVariants.Memory, TheVariants.Room}
 use Rattle.bpfcanon_c.specs.{Outputs.IsBtfCode, Answers.bare_answer, Answers.fault_answer}
-use Rattle.bpfcanon_c.specs.BtfRows.{SaysItem, SaysType, items_of, with_firsts}
+use Rattle.bpfcanon_c.specs.BtfRows.{SaysItem, SaysType, items_in, items_of, types_in}
 
 -- the records of the types that the file denotes, and of their items: arrays of a twelfth and an eighth of its length are long enough
 pub record IsDecodedBtf (bytes : List ℕ) (types : List TypeRow) (items : List ItemRow) : Type 0 where
   pub v : List TypeRecord
   pub denotes : Denotes bytes v
-  pub types_say : AllZip (SaysType bytes) types (with_firsts 0 v)
-  pub items_say : AllZip (SaysItem bytes) items (items_of v)
+  pub types_say : AllZip (SaysType denotes.order bytes) types (types_in denotes.order bytes v)
+  pub items_say : AllZip (SaysItem denotes.order bytes) items (items_in denotes.order bytes v)
   pub fits : 12 * length types + 8 * length items ≤ length bytes
 
 -- the numbers of types and of items, if an array of `types` or of `items` records is too short

@@ -4,12 +4,13 @@ use Rattle.std.specs.Prelude.{◌≡◌, ◌==◌, ◌<◌, ◌+◌, ◌*◌, �
 use Rattle.std.specs.List.{AllZip, concat}
 use Rattle.bpf_words.specs.{declared.Order.Order}
 use Rattle.btf_raw.specs.{Frames.bytes_of, Header.HasNulEnds, Names.NameAt}
+use Rattle.btf_raw.specs.Header as header
 use Rattle.btf_types.specs.Values.{TypeHead, KStruct, KUnion, KEnum, KFuncProto, KDatasec, KEnum64, TypeItem, TypeRecord}
 use Rattle.btf_types.specs.{Names.item_name, Spelling.IsRecord, Spelling.ItemSpells, Spelling.head_tail}
 use Rattle.bpfcanon_c.specs.declared.btf_rows.ItemRow.{ItemRow}
 use Rattle.bpfcanon_c.specs.BtfRows.{bare_item}
 
--- from an offset of the file on there are these items, of a type with this kind_flag, then these records; the string section begins at another offset
+-- from an offset of the file on there are these items, of a type with this kind_flag, then these records; the string section is at another offset
 pub record Rest (o : Order) (bytes : List ℕ) (at strings_at flag : ℕ) (is : List TypeItem) (v : List TypeRecord) : Type 0 where
   pub strings : List ℕ
   pub words : List (List ℕ)
@@ -19,6 +20,7 @@ pub record Rest (o : Order) (bytes : List ℕ) (at strings_at flag : ℕ) (is : 
   pub fit : (i : ℕ) → slice_index (concat words) i < 2 ^ 32
   pub types : AllZip (IsRecord o strings) v spellings
   pub here : drop at bytes ≡ bytes_of o (concat words) ++ (concat spellings ++ tail)
+  pub strings_are : strings_at ≡ header.strings_at o bytes
   pub named : (offset : ℕ) (name : List ℕ) → NameAt strings offset name → NameAt bytes (strings_at + offset) name
   pub short : strings_at + length strings < 2 ^ 32
   pub ends : HasNulEnds strings

@@ -1,9 +1,10 @@
 -- The types of BTF and their items as records of a fixed size: docs/FORMATS.md lists the kinds and their fields.
-use Rattle.std.specs.Prelude.{◌≡◌, ◌+◌, ℕ, ℤ, pos, negsuc, List, [], ◌∷◌, Bool, true, false, Option, Some, None, length}
+use Rattle.std.specs.Prelude.{◌≡◌, ◌+◌, ◌*◌, ℕ, ℤ, pos, negsuc, List, [], ◌∷◌, Bool, true, false, Option, Some, None, length}
 use Rattle.std.specs.List.{flat_map}
-use Rattle.btf_raw.specs.Names.{NameAt}
+use Rattle.bpf_words.specs.{declared.Order.Order, Words.word32_at}
+use Rattle.btf_raw.specs.{Header.types_at, Header.strings_at, Kinds.fixed_words, Kinds.item_words, Names.NameAt}
 use Rattle.btf_types.specs.Values.{TypeHead, KInt, KPtr, KArray, KStruct, KUnion, KEnum, KFwd, KTypedef, KVolatile, KConst, KRestrict, KFunc, KFuncProto, KVar, KDatasec, KFloat, KDeclTag, KTypeTag, KEnum64, TypeItem, Member, EnumValue, Value64, Param, Entry, TypeRecord}
-use Rattle.btf_types.specs.{Names.head_name, Names.item_name, Spelling.encoding_number, Spelling.linkage_number}
+use Rattle.btf_types.specs.{Names.head_name, Names.item_name, Spelling.kind_number, Spelling.encoding_number, Spelling.linkage_number, Good.record_size}
 use Rattle.bpfcanon_c.specs.declared.btf_rows.{TypeRow.TypeRow, ItemRow.ItemRow}
 
 -- ---- the record of a type
@@ -65,23 +66,55 @@ item_parts (Entry target offset size) = record (bare_item 5) { target = target; 
 abbrev pub item_row : ℕ → TypeItem → ItemRow
 item_row name i = record (item_parts i) { name = name; name_len = length (item_name i) }
 
--- ---- what the records say
-
 -- the items of all types, in order
 abbrev pub items_of : List TypeRecord → List TypeItem
 items_of v = flat_map (λ r. r.items) v
 
--- each type with the number of items of the types before it
-abbrev pub with_firsts : ℕ → List TypeRecord → List (ℕ × TypeRecord)
-with_firsts first [] = []
-with_firsts first (r ∷ v) = (first, r) ∷ with_firsts (first + length r.items) v
+-- ---- where the file has them
 
--- the record says this type, and its name, which is UTF-8, is in the file at the offset that the record states, with a NUL after it
-pub record SaysType (bytes : List ℕ) (row : TypeRow) (place : ℕ × TypeRecord) : Type 0 where
-  pub form : row ≡ type_row row.name place.0 (length place.1.items) place.1.head
-  pub named : NameAt bytes row.name (head_name place.1.head)
+-- a type with the offset of its record in the file, and the number of the items of the types before it
+pub record PlacedType : Type 0 where
+  pub at : ℕ
+  pub first : ℕ
+  pub type : TypeRecord
+
+-- types whose records follow one another from an offset of the file on
+abbrev pub placed : ℕ → ℕ → List TypeRecord → List PlacedType
+placed at first [] = []
+placed at first (r ∷ v) = record { at = at; first = first; type = r } ∷ placed (at + record_size r) (first + length r.items) v
+
+-- items of this length in bytes, each with its offset in the file
+abbrev pub items_from : ℕ → ℕ → List TypeItem → List (ℕ × TypeItem)
+items_from at len [] = []
+items_from at len (i ∷ is) = (at, i) ∷ items_from (at + len) len is
+
+-- the items of a type: three 32-bit fields, and those that only its kind has, are before them (btf.rst section 2.2)
+abbrev pub placed_items : PlacedType → List (ℕ × TypeItem)
+placed_items t =
+    let kind = kind_number t.type.head in
+    items_from (t.at + 4 * (3 + fixed_words kind)) (4 * item_words kind) t.type.items
+
+-- the types that a file has in this byte order
+abbrev pub types_in : Order → List ℕ → List TypeRecord → List PlacedType
+types_in o bytes v = placed (types_at o bytes) 0 v
+
+-- and the items of all of them, in order
+abbrev pub items_in : Order → List ℕ → List TypeRecord → List (ℕ × TypeItem)
+items_in o bytes v = flat_map placed_items (types_in o bytes v)
+
+-- ---- what the records say
+
+-- name_off of an item at an offset of the file: its first field, or 0 for an entry, which has none
+abbrev pub item_name_off : Order → List ℕ → ℕ × TypeItem → ℕ
+item_name_off o bytes (at, Entry target offset size) = 0
+item_name_off o bytes (at, i) = word32_at o bytes at
+
+-- the record says this type: its name is where name_off, the first field of the type, points in the string section, and is UTF-8 with a NUL after it
+pub record SaysType (o : Order) (bytes : List ℕ) (row : TypeRow) (t : PlacedType) : Type 0 where
+  pub form : row ≡ type_row (strings_at o bytes + word32_at o bytes t.at) t.first (length t.type.items) t.type.head
+  pub named : NameAt bytes row.name (head_name t.type.head)
 
 -- likewise for an item
-pub record SaysItem (bytes : List ℕ) (row : ItemRow) (i : TypeItem) : Type 0 where
-  pub form : row ≡ item_row row.name i
-  pub named : NameAt bytes row.name (item_name i)
+pub record SaysItem (o : Order) (bytes : List ℕ) (row : ItemRow) (i : ℕ × TypeItem) : Type 0 where
+  pub form : row ≡ item_row (strings_at o bytes + item_name_off o bytes i) i.1
+  pub named : NameAt bytes row.name (item_name i.1)

@@ -12,4 +12,5 @@ pub mod InsnSteps
 pub mod Listings
 pub mod OpcodeRows
 pub mod Outputs
+pub mod RawEncoding
 pub mod TypesText

@@ -7,13 +7,14 @@
 //! way. Asked for an item, the table would find and decode the record of its type anew, so it is
 //! asked only for what needs it: the heads, and the lengths of long names.
 
-ghost use Rattle.std.specs.Prelude.{◌≡◌, ◌<◌, ◌≤◌, ◌+◌, ◌^◌, [], All, IfSome, length, drop};
-ghost use Rattle.std.specs.List.{AllZip};
+ghost use Rattle.std.specs.Prelude.{◌≡◌, ◌<◌, ◌≤◌, ◌+◌, ◌*◌, ◌^◌, [], All, IfSome, length, drop};
+ghost use Rattle.std.specs.List.{AllZip, flat_map};
 ghost use Rattle.bpf_words.specs.Words.{word32_at};
 ghost use Rattle.btf_raw.specs.{Names.IsEnd, ReadHeader.ReadsHeader};
 ghost use Rattle.btf_types.specs.{Denotes.Denotes, Values.head_value};
 ghost use Rattle.btf_types.specs.tables.TableWords.{record_at};
-ghost use Rattle.bpfcanon_c.specs.BtfRows.{SaysItem, SaysType, items_of, item_parts, with_firsts};
+ghost use Rattle.bpfcanon_c.specs.BtfRows.{SaysItem, SaysType, items_from, items_of, item_parts};
+ghost use Rattle.bpfcanon_c.specs.BtfRows.{placed, placed_items};
 ghost use Rattle.bpfcanon_c.specs.BtfDecoding.{AnswersBtfDecode, EndsBtfRows, rows_answer_of};
 ghost use Rattle.bpfcanon_c.specs.BtfRest as rest;
 
@@ -200,7 +201,10 @@ fn put_items(
     requires left { rest.Rest order bytes.now place.start strings_at place.flag
         (record_at table.now id).items (drop id table.now) }
     ensures left { rest.Rest order bytes.now result strings_at 0 [] (drop id table.now) }
-    ensures said { AllZip (SaysItem bytes.now) out.new (record_at table.now id).items }
+    ensures end { result
+        ≡ place.start + rest.item_bytes place.kind * length (record_at table.now id).items }
+    ensures said { AllZip (SaysItem order bytes.now) out.new
+        (items_from place.start (rest.item_bytes place.kind) (record_at table.now id).items) }
 {
     let mut at = place.start;
     for k in 0..out.len() {
@@ -242,8 +246,10 @@ fn put_all(
     requires items_room { length (items_of table.now) ≤ length items.old }
     requires few { length (items_of table.now) < 2 ^ 32 }
     requires left { rest.Rest order bytes.now start strings_at 0 [] table.now }
-    ensures types { rest.Writes (SaysType bytes.now) (with_firsts 0 table.now) types.old types.new }
-    ensures items { rest.Writes (SaysItem bytes.now) (items_of table.now) items.old items.new }
+    ensures types { rest.Writes (SaysType order bytes.now) (placed start 0 table.now)
+        types.old types.new }
+    ensures items { rest.Writes (SaysItem order bytes.now)
+        (flat_map placed_items (placed start 0 table.now)) items.old items.new }
 {
     let mut at = start;
     let mut first = 0;

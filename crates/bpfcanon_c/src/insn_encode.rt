@@ -11,6 +11,7 @@ ghost use Rattle.bpf_words.specs.declared.Order.TheVariants.{Little};
 ghost use Rattle.bpf_insn.specs.{declared.insn.Insn.Insn, Table.IsInsn, Spelling.spelling};
 ghost use Rattle.bpfcanon_c.specs.InsnEncoding as enc;
 ghost use Rattle.bpfcanon_c.specs.InsnSteps.{SayInsns};
+ghost use Rattle.bpfcanon_c.specs.RawEncoding as spec;
 
 use crate::answer::{Answer, Ending, FaultCode, order_from, report};
 use crate::insn_rows::{InsnRow, form_row};
@@ -20,7 +21,7 @@ use bpf_words::slot_bytes;
 /// The size field of an opcode (RFC 9669 section 5) for this number of bits. It is that of 64 bits,
 /// 3, for any other number than 8, 16 and 32.
 fn size_code(bits: u8) -> u8
-    ensures is { result ≡ enc.size_code bits }
+    ensures is { result ≡ spec.size_code bits }
     ensures few { result < 4 }
 {
     match bits {
@@ -33,7 +34,7 @@ fn size_code(bits: u8) -> u8
 
 /// The opcode of a record. If the record says no instruction, it is some opcode.
 fn raw_opcode(form: u8, op: u8, bits: u8, by_reg: u8) -> u8
-    ensures { result ≡ enc.raw_opcode form op bits by_reg }
+    ensures { result ≡ spec.raw_opcode form op bits by_reg }
 {
     let alu = if bits == 64 { 7 } else { 4 };
     let branch = if bits == 64 { 5 } else { 6 };
@@ -61,7 +62,7 @@ fn raw_opcode(form: u8, op: u8, bits: u8, by_reg: u8) -> u8
 
 /// The first slot of a record. If the record says no instruction, it is some slot.
 fn raw_slot(row: InsnRow) -> Slot
-    ensures { result ≡ enc.raw_fields row }
+    ensures { result ≡ spec.raw_fields row }
 {
     let src = match row.form {
         9 => 1,
@@ -113,8 +114,8 @@ fn same_numbers(a: InsnRow, b: InsnRow) -> bool
 /// records say.
 #[tactic(auto, using(crate::proofs::InsnEncoding::raw_is))]
 fn raw_bytes(to: Order, row: InsnRow) -> ([u8; 16], usize)
-    ensures spelled { result.0 ≡ enc.raw_bytes to row ++ replicate (16 - result.1) 0 }
-    ensures len { result.1 ≡ length (enc.raw_bytes to row) }
+    ensures spelled { result.0 ≡ spec.raw_bytes to row ++ replicate (16 - result.1) 0 }
+    ensures len { result.1 ≡ length (spec.raw_bytes to row) }
 {
     let mut bytes = [0; 16];
     bytes[..8].copy_from_slice(&slot_bytes(to, raw_slot(row)));

@@ -1,11 +1,12 @@
 -- The next item, its name and what is left after it.
-use Rattle.std.proofs.Common.{◌≡◌, ◌<◌, ◌+◌, ◌^◌, ◌∙◌, ℕ, length, take, drop, sym, ap, arith, subst}
-use Rattle.btf_raw.specs.Names.{NameAt}
+use Rattle.std.proofs.Common.{◌≡◌, ◌<◌, ◌+◌, ◌*◌, ◌^◌, ◌++◌, ◌∷◌, ◌∙◌, ℕ, [], length, take, drop, sym, ap, arith, subst, add-one}
+use Rattle.std.proofs.Math.Nat.{mul-suc}
+use Rattle.btf_raw.specs.{Header.strings_at, Names.NameAt}
 use Rattle.btf_types.specs.{Names.item_name, tables.TableWords.record_at}
 use Rattle.bpfcanon_c.specs.declared.btf_rows.ItemRow.{ItemRow}
-use Rattle.bpfcanon_c.specs.{BtfRest.Rest, BtfRest.item_name_at, BtfRows.SaysItem, BtfRows.item_row}
+use Rattle.bpfcanon_c.specs.{BtfRest.Rest, BtfRest.item_bytes, BtfRest.item_name_at, BtfRows.SaysItem, BtfRows.item_name_off, BtfRows.item_row, BtfRows.items_from}
 use Rattle.bpfcanon_c.proofs.BtfRest.{next_item, ended}
-use Rattle.bpfcanon_c.proofs.BtfRows.{more_at, zip_more, says_item}
+use Rattle.bpfcanon_c.proofs.{BtfPlaces.items_from_more, BtfRows.zip_more, BtfRows.says_item}
 use Rattle.bpfcanon_c.proofs.btf_decode.put_items.Goals as goal
 
 pub get32-requires : goal.get32-requires
@@ -66,11 +67,21 @@ loop-k-preserved c =
     let row : ItemRow = record c.item_at.result { name = name; name_len = c.item_name_len-name_len.result } in
     let is_row : row ≡ item_row name i = ap (λ (p : ItemRow). record p { name = name; name_len = c.item_name_len-name_len.result }) parts ∙ ap (λ (n : ℕ). record (item_row name i) { name_len = n }) len in
     let named : NameAt bytes name (item_name i) = subst (λ (n : ℕ). NameAt bytes n (item_name i)) (sym at) next.named in
+    let o = c.args.order in
+    let here : name ≡ strings_at o bytes + item_name_off o bytes (c.loop-k.at, i) = at ∙ next.place in
+    let start = c.args.place.start in
+    let size = item_bytes c.args.place.kind in
+    let before = items_from start size (take k is) in
+    let place : c.loop-k.at ≡ start + size * k = c.loop-k.invariant.place in
+    let more : items_from start size (take (k + 1) is) ≡ before ++ (c.loop-k.at, i) ∷ [] =
+    items_from_more start size is k i inside next.is_there ∙ ap (λ (n : ℕ). before ++ (n, i) ∷ []) (sym place)
+    in
     record {
-      left = subst (λ (n : ℕ). Rest c.args.order bytes (c.loop-k.at + n) c.args.strings_at c.args.place.flag (drop (k + 1) is) v) (sym c.item_len-at.ensures) next.rest;
+      left = subst (λ (n : ℕ). Rest o bytes (c.loop-k.at + n) c.args.strings_at c.args.place.flag (drop (k + 1) is) v) (sym c.item_len-at.ensures) next.rest;
+      place = omega (arith, place, c.item_len-at.ensures, mul-suc size k, ap (λ (n : ℕ). size * n) (add-one k));
       said =
-          zip_more (SaysItem bytes) c.loop-k.out k row (take k is) (take (k + 1) is) i (omega arith) c.loop-k.invariant.said (more_at is k i inside next.is_there)
-          (says_item bytes row name i is_row named);
+          zip_more (SaysItem o bytes) c.loop-k.out k row before _ (c.loop-k.at, i) (omega arith) c.loop-k.invariant.said more
+          (says_item o bytes row name c.loop-k.at i is_row here named);
     }
 
 pub returns-clause-left : goal.returns-clause-left
@@ -78,3 +89,8 @@ returns-clause-left c =
     let is = (record_at c.args.table.now c.args.id).items in
     let v = drop c.args.id c.args.table.now in
     ended c.args.order c.args.bytes.now c.loop-k.at c.args.strings_at c.args.place.flag is c.loop-k.k v (omega (arith, c.requires.count, c.loop-k-test.false)) c.loop-k.invariant.left
+
+pub returns-clause-end : goal.returns-clause-end
+returns-clause-end c =
+    let all : c.loop-k.k ≡ length (record_at c.args.table.now c.args.id).items = omega (arith, c.requires.count, c.loop-k-test.false) in
+    c.loop-k.invariant.place ∙ ap (λ (n : ℕ). c.args.place.start + item_bytes c.args.place.kind * n) all

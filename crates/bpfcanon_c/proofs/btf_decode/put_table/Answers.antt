@@ -1,9 +1,12 @@
-use Rattle.std.proofs.Common.{◌≡◌, ◌<◌, ◌++◌, ◌⊎◌, ◌∙◌, ℕ, List, length, take, drop, sym, ap, refl, arith, inl, inr}
+use Rattle.std.proofs.Common.{◌≡◌, ◌<◌, ◌++◌, ◌⊎◌, ◌∙◌, ℕ, List, length, take, drop, sym, ap, refl, arith, inl, inr, subst}
+use Rattle.std.specs.List.{AllZip, flat_map}
 use Rattle.std.proofs.lemmas.List.{take-append-drop}
+use Rattle.bpf_words.specs.declared.Order.{Order}
+use Rattle.btf_raw.specs.Header.{types_at}
 use Rattle.bpfcanon_c.specs.declared.btf_rows.{TypeRow.TypeRow, ItemRow.ItemRow}
-use Rattle.bpfcanon_c.specs.BtfRows.{SaysItem, SaysType, items_of, with_firsts}
+use Rattle.bpfcanon_c.specs.BtfRows.{SaysItem, SaysType, items_in, placed, placed_items, types_in}
 use Rattle.std.proofs.lemmas.Slice.Zip.{AllZip-long}
-use Rattle.bpfcanon_c.proofs.BtfRows.{length-firsts}
+use Rattle.bpfcanon_c.proofs.BtfPlaces.{length-placed, length-placed_items}
 use Rattle.bpfcanon_c.proofs.BtfStarts.{starts}
 use Rattle.bpfcanon_c.proofs.btf_decode.put_table.Goals as goal
 
@@ -42,32 +45,46 @@ pub returns : goal.returns
 returns c =
     let bytes = c.args.bytes.now in
     let v = c.args.table.now in
-    let s = starts bytes c.args.header v c.requires.header c.requires.denotes in
+    let d = c.requires.denotes in
+    let s = starts bytes c.args.header v c.requires.header d in
     let n = c.count-count.result in
     let m = c.item_total-total.result in
     let types = c.put_all.new.types in
     let items = c.put_all.new.items in
-    let places = length (with_firsts 0 v) in
-    let n-is : n ≡ places = c.count-count.ensures.count ∙ sym (length-firsts 0 v) in
-    let m-is : m ≡ length (items_of v) = c.item_total-total.ensures in
-    let t-long : length (take places types) ≡ places = sym (AllZip-long (SaysType bytes) (take places types) (with_firsts 0 v) c.put_all.ensures.types.said) in
-    let i-long : length (take (length (items_of v)) items) ≡ length (items_of v) = sym (AllZip-long (SaysItem bytes) (take (length (items_of v)) items) (items_of v) c.put_all.ensures.items.said) in
-    let old_types = c.args.types.now in
-    let old_items = c.args.items.now in
+    let start = c.args.header.types_pos in
+    let is_start : start ≡ types_at c.args.header.order bytes = c.requires.header.types_pos in
+    let places = length (placed start 0 v) in
+    let item_places = length (flat_map placed_items (placed start 0 v)) in
+    let n-is : n ≡ places = c.count-count.ensures.count ∙ sym (length-placed start 0 v) in
+    let m-is : m ≡ item_places = c.item_total-total.ensures ∙ sym (length-placed_items start 0 v) in
+    let rows = take places types in
+    let item_rows = take item_places items in
+    let types_said : AllZip (SaysType d.order bytes) rows (types_in d.order bytes v) =
+    subst (λ (o : Order). AllZip (SaysType o bytes) rows (types_in o bytes v)) s.order
+    (subst (λ (at : ℕ). AllZip (SaysType c.args.header.order bytes) rows (placed at 0 v)) is_start c.put_all.ensures.types.said)
+    in
+    let items_said : AllZip (SaysItem d.order bytes) item_rows (items_in d.order bytes v) =
+    subst (λ (o : Order). AllZip (SaysItem o bytes) item_rows (items_in o bytes v)) s.order
+    (subst (λ (at : ℕ). AllZip (SaysItem c.args.header.order bytes) item_rows (flat_map placed_items (placed at 0 v))) is_start c.put_all.ensures.items.said)
+    in
+    let t-long : length rows ≡ places = sym (AllZip-long (SaysType c.args.header.order bytes) rows (placed start 0 v) c.put_all.ensures.types.said) in
+    let i-long : length item_rows ≡ item_places =
+    sym (AllZip-long (SaysItem c.args.header.order bytes) item_rows (flat_map placed_items (placed start 0 v)) c.put_all.ensures.items.said)
+    in
     record {
-      rows = take places types;
-      item_rows = take (length (items_of v)) items;
+      rows = rows;
+      item_rows = item_rows;
       decoded = record {
         v = v;
-        denotes = c.requires.denotes;
-        types_say = c.put_all.ensures.types.said;
-        items_say = c.put_all.ensures.items.said;
-        fits = omega (arith, s.fits, t-long, i-long, length-firsts 0 v);
+        denotes = d;
+        types_say = types_said;
+        items_say = items_said;
+        fits = omega (arith, s.fits, t-long, i-long, length-placed start 0 v, length-placed_items start 0 v);
       };
       count = n-is ∙ sym t-long;
       total = m-is ∙ sym i-long;
       types_are =
-          sym (take-append-drop places types) ∙ ap (λ (x : List TypeRow). take places types ++ x) (c.put_all.ensures.types.kept ∙ ap (λ (k : ℕ). drop k old_types) (sym n-is));
+          sym (take-append-drop places types) ∙ ap (λ (x : List TypeRow). rows ++ x) (c.put_all.ensures.types.kept ∙ ap (λ (k : ℕ). drop k c.args.types.now) (sym n-is));
       items_are =
-          sym (take-append-drop (length (items_of v)) items) ∙ ap (λ (x : List ItemRow). take (length (items_of v)) items ++ x) (c.put_all.ensures.items.kept ∙ ap (λ (k : ℕ). drop k old_items) (sym m-is));
+          sym (take-append-drop item_places items) ∙ ap (λ (x : List ItemRow). item_rows ++ x) (c.put_all.ensures.items.kept ∙ ap (λ (k : ℕ). drop k c.args.items.now) (sym m-is));
     }
