@@ -1,11 +1,12 @@
 -- The head that is read from a record's numbers, kind by kind: what it must be so that the numbers spell it and it is good.
-use Rattle.std.proofs.Common.{◌≡◌, ◌⊎◌, ℕ, zero, suc, ◌+◌, ◌*◌, ◌^◌, ◌<◌, ◌≤◌, Bool, true, false, List, [], ◌∷◌, length, refl, sym, ap, ◌∙◌, inl, inr, lit<, arith}
+use Rattle.std.proofs.Common.{◌≡◌, ◌≢◌, ◌⊎◌, ℕ, zero, suc, ◌+◌, ◌*◌, ◌^◌, ◌<◌, ◌≤◌, Bool, true, false, List, [], ◌∷◌, length, refl, sym, ap, ◌∙◌, inl, inr, lit<, arith}
 use Rattle.std.specs.Prelude.{IsTrue, IfSome, ◌==◌, if◌then◌else◌}
 use Rattle.std.specs.List.{All}
 use Rattle.std.proofs.lemmas.{Bool.eqb-true, List.Elements.All-nil, List.Elements.All-cons}
 use Rattle.btf_raw.specs.{KindNumbers.INT, KindNumbers.ARRAY, KindNumbers.FUNC, KindNumbers.VAR, KindNumbers.DECL_TAG, KindNumbers.FWD, Heads.bit}
-use Rattle.btf_raw.specs.Kinds.{one_of, has_flag, has_vlen, fixed_words, item_words, has_target, has_no_name}
-use Rattle.btf_types.specs.{Values.TypeItem, Names.head_name, Good.HeadIsGood, Good.head_targets}
+use Rattle.btf_raw.specs.Kinds.{one_of, has_flag, has_vlen, fixed_words, item_words, has_target, needs_name, has_no_name}
+use Rattle.btf_types.specs.Values.{TypeHead, KFwd, KTypedef, KFunc, KVar, KDatasec, KDeclTag, KTypeTag, TypeItem}
+use Rattle.btf_types.specs.{Names.head_name, Good.HasNeededName, Good.HeadIsGood, Good.head_targets}
 use Rattle.btf_types.specs.Spelling.{kind_number, head_third, FlagSpells, linkage_number, encoding_number, component_word, record_vlen, head_tail, HeadInRange}
 use Rattle.btf_types.specs.checks.Numbers.{TypeFacts, size_fits, bits_fit, component_fits}
 use Rattle.btf_types.specs.Good as good
@@ -27,6 +28,17 @@ name_of_head IsConst name third flag vlen next fourth fifth none = sym (none ref
 name_of_head IsRestrict name third flag vlen next fourth fifth none = sym (none refl)
 name_of_head IsFuncProto name third flag vlen next fourth fifth none = sym (none refl)
 name_of_head known name third flag vlen next fourth fifth none = refl
+
+pub named_head : (h : TypeHead) → (IsTrue (needs_name (kind_number h)) → head_name h ≢ []) → HasNeededName h
+unfolding needs_name
+named_head (KFwd name is_union) needed = needed refl
+named_head (KTypedef name target) needed = needed refl
+named_head (KFunc name linkage target) needed = needed refl
+named_head (KVar name target linkage) needed = needed refl
+named_head (KDatasec name size) needed = needed refl
+named_head (KDeclTag name flag target component) needed = needed refl
+named_head (KTypeTag name flag target) needed = needed refl
+named_head _ needed = tt
 
 pub third_of_head : {k : ℕ} → KindIs k → (name : List ℕ) (third flag vlen next fourth fifth : ℕ) → (IsTrue (one_of (ARRAY ∷ FWD ∷ []) k) → third ≡ 0) → head_third (head_from name k third flag vlen next fourth fifth) ≡ third
 unfolding head_from

@@ -14,7 +14,7 @@ use Rattle.btf_types.specs.checks.FieldFaults.{HasBitFields, frame_facts, width}
 use Rattle.btf_types.specs.Reading.{text_from, component_of, head_of, item_from, item_of, item_total, record_of, tabulate}
 use Rattle.btf_types.proofs.{Lists.length-tabulate, StringLemmas.SpelledNames.record_names_there, CheckLemmas.RecordSteps.array_end}
 use Rattle.btf_types.proofs.KindCases.{KindIs, IsInt, IsArray, IsVar, IsDeclTag, IsStruct, IsUnion, IsEnum, IsFuncProto, IsDatasec, IsEnum64}
-use Rattle.btf_types.proofs.FaultlessLemmas.FaultlessHeads.{words_after, count_of, kind_of_head, name_of_head, third_of_head, flag_of_head, tail_of_head, vlen_of_head, range_of_head, targets_of_head, good_head, size_of_count, offset_of_head, bits_of_head, count_is, room_of_items}
+use Rattle.btf_types.proofs.FaultlessLemmas.FaultlessHeads.{words_after, count_of, kind_of_head, name_of_head, named_head, third_of_head, flag_of_head, tail_of_head, vlen_of_head, range_of_head, targets_of_head, good_head, size_of_count, offset_of_head, bits_of_head, count_is, room_of_items}
 use Rattle.btf_types.proofs.FaultlessLemmas.FaultlessWords.{known, room, info_is, flag_low, vlen_low, name_is, needed, unwanted, zeroed, size_is, type_is, int_is, func_linkage, var_linkage, component_is}
 use Rattle.btf_types.proofs.FaultlessLemmas.FaultlessItems.{ItemIsRight, item_right}
 use Rattle.btf_types.proofs.TabulateSteps.{All-tabulate, AllZip-tabulate, any-tabulate, pieces, first_three, none_after, one_after, three_after}
@@ -172,7 +172,7 @@ module _ (strings : List ℕ) (types : List TypeFacts) (frame : List ℕ) (ends 
     items_of = All-tabulate (ItemOf (head_of frame name)) item_at count (λ i low. (right i low).of);
     items_fit = few_items;
     names = names_good component;
-    named = λ needs e. needed strings types frame ends is_frame none (rw kind_same at needs) (sym name_same ∙ e);
+    named = named_head (head_of frame name) (λ needs e. needed strings types frame ends is_frame none (rw kind_same at needs) (sym name_same ∙ e));
     size = size_good;
     head_targets = targets_good;
     item_targets = item_targets_good;

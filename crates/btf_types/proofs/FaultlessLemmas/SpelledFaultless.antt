@@ -6,17 +6,17 @@ use Rattle.std.proofs.lemmas.List.Elements.{All-head, All-tail}
 use Rattle.btf_raw.specs.{declared.cause.BtfCause.BtfCause, Names.TextAt, Names.NameAt}
 use Rattle.btf_raw.specs.declared.cause.BtfCause.TheVariants.{NameRange, NameUtf8, NameMissing, NameUnwanted, NotZero, Size, Reference, TargetKind, IntWord, MemberInt, MemberPlace, Linkage, Component}
 use Rattle.btf_raw.specs.KindNumbers.{INT, ARRAY, STRUCT, UNION, FWD, FUNC, FUNC_PROTO, VAR, DATASEC, DECL_TAG}
-use Rattle.btf_raw.specs.Kinds.{one_of, item_words, has_no_name, has_target, has_item_names, is_struct}
+use Rattle.btf_raw.specs.Kinds.{one_of, item_words, needs_name, has_no_name, has_target, has_item_names, is_struct}
 use Rattle.btf_raw.specs.Frames.{kind, vlen, flag, name_word, third_word}
 use Rattle.btf_raw.proofs.Texts.{TextAt-unique, TextAt-inside}
 use Rattle.btf_types.specs.declared.values.Encoding.{Encoding, TheVariants.Plain, TheVariants.Signed, TheVariants.Char, TheVariants.Bool as Boolean}
 use Rattle.btf_types.specs.declared.values.Linkage.{Linkage as ItsLinkage, TheVariants.LStatic, TheVariants.LGlobal, TheVariants.LExtern}
-use Rattle.btf_types.specs.Values.{TypeHead, KInt, KPtr, KArray, KStruct, KUnion, KEnum, KFwd, KFunc, KFuncProto, KVar, KDatasec, KDeclTag, KEnum64, TypeItem, Member, EnumValue, Value64, Param, Entry, TypeRecord}
+use Rattle.btf_types.specs.Values.{TypeHead, KInt, KPtr, KArray, KStruct, KUnion, KEnum, KFwd, KTypedef, KFunc, KFuncProto, KVar, KDatasec, KDeclTag, KTypeTag, KEnum64, TypeItem, Member, EnumValue, Value64, Param, Entry, TypeRecord}
 use Rattle.btf_types.specs.Names.{head_name, item_name}
 use Rattle.btf_types.specs.Spelling.{kind_number, head_third, head_tail, linkage_number, encoding_number, MemberWord, ItemSpells, Spells, HeadInRange}
 use Rattle.btf_types.specs.checks.Numbers.{TypeFacts, size_fits, bits_fit, component_fits, member_fits, member_int_fits}
 use Rattle.btf_types.specs.Good as good
-use Rattle.btf_types.specs.Good.{HeadIsGood, ItemOf, head_targets, item_targets, has_width, has_bit_fields, TargetIsGood, MemberIsGood, IsGoodRecord, facts_of}
+use Rattle.btf_types.specs.Good.{HasNeededName, HeadIsGood, ItemOf, head_targets, item_targets, has_width, has_bit_fields, TargetIsGood, MemberIsGood, IsGoodRecord, facts_of}
 use Rattle.btf_types.specs.checks.FieldFaults.{IsNameField, IsTypeField, IsMemberWord, HasBitFields, int_unused, int_encoding, int_offset, int_bits, frame_facts, WordFault}
 use Rattle.std.proofs.lemmas.Bool.{ne_eqb}
 use Rattle.btf_types.proofs.{KindCases.one_among, Spelled.vlen_from, Spelled.no_items, Members.Has-get_or, Members.any_from_Has}
@@ -33,6 +33,17 @@ names_are h = refl
 
 no_name_there : (h : TypeHead) → IsTrue (has_no_name (kind_number h)) → head_name h ≡ []
 no_name_there h none = names_are h ∙ rw none refl
+
+name_needed : (h : TypeHead) → IsTrue (needs_name (kind_number h)) → HasNeededName h → head_name h ≢ []
+unfolding needs_name
+name_needed (KFwd name is_union) needs named = named
+name_needed (KTypedef name target) needs named = named
+name_needed (KFunc name linkage target) needs named = named
+name_needed (KVar name target linkage) needs named = named
+name_needed (KDatasec name size) needs named = named
+name_needed (KDeclTag name flag target component) needs named = named
+name_needed (KTypeTag name flag target) needs named = named
+name_needed _ needs named = absurd cc
 
 no_third : (h : TypeHead) → IsTrue (one_of (ARRAY ∷ FWD ∷ []) (kind_number h)) → head_third h ≡ 0
 no_third (KArray target index count) none = refl
@@ -258,7 +269,7 @@ module _ (strings : List ℕ) (types : List TypeFacts) (r : TypeRecord) (f : Lis
   pub spelled_faultless : (j : ℕ) (c : BtfCause) → ¬ WordFault strings types f j c
   spelled_faultless j NameRange fault = let name = field_name fault.0 j fault.1 in name_inside strings (slice_index f j) name.0 name.1 fault.2
   spelled_faultless j NameUtf8 fault = let name = field_name fault.0 j fault.1 in fault.4 (name_utf8 strings (slice_index f j) name.0 fault.2 name.1 fault.3)
-  spelled_faultless j NameMissing fault = right.named (rw n.kind at fault.1) (TextAt-unique strings (name_word f) (head_name r.head) [] own_name.text fault.2)
+  spelled_faultless j NameMissing fault = name_needed r.head (rw n.kind at fault.1) right.named (TextAt-unique strings (name_word f) (head_name r.head) [] own_name.text fault.2)
   spelled_faultless j NameUnwanted fault = fault.4 (TextAt-unique strings (name_word f) fault.2 (head_name r.head) fault.3 own_name.text ∙ no_name_there r.head (rw n.kind at fault.1))
   spelled_faultless j NotZero fault = fault.2 (n.third ∙ no_third r.head (rw n.kind at fault.1))
   spelled_faultless j Size fault =
