@@ -106,11 +106,11 @@ offset_fits (Movsx f d s) h = small_offset (movsx_bits f) (omega (arith, movsx_b
 offset_fits _ h = search rules
 
 imm_fits : (i : Insn) → IsInsn i → IsImm (fields_of i).imm
-imm_fits (Alu width op d a) h = immediate_fits a h
+imm_fits (Alu width op d a) h = immediate_fits a h.1
 imm_fits (Swap kind bits d) h = small_imm (swap_bits bits) (omega (arith, bits_below bits))
-imm_fits (Branch width op d a o) h = immediate_fits a h.0
+imm_fits (Branch width op d a o) h = immediate_fits a h.1
 imm_fits (Atomic width op d s o) h = small_imm (atomic_number op) (atomic_below op)
-imm_fits (Wide d what) h = wide_imm_fits what h
+imm_fits (Wide d what) h = wide_imm_fits what h.1
 imm_fits _ h = search rules
 
 pub fields_in_range : (i : Insn) → IsInsn i → AreFields (fields_of i)

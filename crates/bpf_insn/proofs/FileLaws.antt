@@ -30,7 +30,7 @@ next_of_form (Wide d what) = refl
 next_of_form _ = refl
 
 next_fits : (i : Insn) → IsInsn i → IfSome (next_imm_of i) (FitsSigned w32)
-next_fits (Wide d what) h = field.wide_next_fits what h
+next_fits (Wide d what) h = field.wide_next_fits what h.1
 next_fits _ h = tt
 
 -- equal bytes of second slots have the same next_imm

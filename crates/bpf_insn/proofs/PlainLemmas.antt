@@ -25,45 +25,45 @@ plain_insn : (f : Form) (d s : ℕ) (o k : ℤ) → IsSomeAnd (rule_of_form f) (
     → IsOneSlot (fields (form_opcode f) d s o k)
 plain_insn (form.Alu width op K) d s o k h ho hk = record {
   insn = Alu width (plain_op op) (reg d h.dst) (arg.Imm k);
-  is = hk;
+  is = (h.dst, hk);
   fields = same_fields _ _ (ap (λ (c : ℕ). code_opcode c 0 (alu_class width)) (plain_code op)) refl (sym h.no_src) (ap pos (plain_offset op) ∙ sym h.no_off) refl;
   alone = refl;
 }
 plain_insn (form.Alu width op X) d s o k h ho hk = record {
   insn = Alu width (plain_op op) (reg d h.dst) (arg.Reg (reg s h.src));
-  is = tt;
+  is = (h.dst, h.src);
   fields = same_fields _ _ (ap (λ (c : ℕ). code_opcode c 1 (alu_class width)) (plain_code op)) refl refl (ap pos (plain_offset op) ∙ sym h.no_off) (sym h.no_imm);
   alone = refl;
 }
 plain_insn (form.Neg width) d s o k h ho hk =
-    record { insn = Neg width (reg d h.dst); is = tt; fields = same_fields _ _ refl refl (sym h.no_src) (sym h.no_off) (sym h.no_imm); alone = refl }
+    record { insn = Neg width (reg d h.dst); is = h.dst; fields = same_fields _ _ refl refl (sym h.no_src) (sym h.no_off) (sym h.no_imm); alone = refl }
 plain_insn (form.Swap kind) d s o k h ho hk = absurd h
 plain_insn form.Jump d s o k h ho hk =
     record { insn = Jump o; is = ho; fields = same_fields _ _ refl (sym h.no_dst) (sym h.no_src) refl (sym h.no_imm); alone = refl }
 plain_insn form.JumpLong d s o k h ho hk =
     record { insn = JumpLong k; is = hk; fields = same_fields _ _ refl (sym h.no_dst) (sym h.no_src) (sym h.no_off) refl; alone = refl }
 plain_insn (form.Branch width op K) d s o k h ho hk =
-    record { insn = Branch width op (reg d h.dst) (arg.Imm k) o; is = (hk, ho); fields = same_fields _ _ refl refl (sym h.no_src) refl refl; alone = refl }
+    record { insn = Branch width op (reg d h.dst) (arg.Imm k) o; is = (h.dst, hk, ho); fields = same_fields _ _ refl refl (sym h.no_src) refl refl; alone = refl }
 plain_insn (form.Branch width op X) d s o k h ho hk =
-    record { insn = Branch width op (reg d h.dst) (arg.Reg (reg s h.src)) o; is = (tt, ho); fields = same_fields _ _ refl refl refl refl (sym h.no_imm); alone = refl }
+    record { insn = Branch width op (reg d h.dst) (arg.Reg (reg s h.src)) o; is = (h.dst, h.src, ho); fields = same_fields _ _ refl refl refl refl (sym h.no_imm); alone = refl }
 plain_insn form.Call d s o k h ho hk =
     record { insn = CallHelper k; is = hk; fields = same_fields _ _ refl (sym h.no_dst) (sym h.no_src) (sym h.no_off) refl; alone = refl }
 plain_insn form.Exit d s o k h ho hk =
     record { insn = Exit; is = tt; fields = same_fields _ _ refl (sym h.no_dst) (sym h.no_src) (sym h.no_off) (sym h.no_imm); alone = refl }
 plain_insn (form.Load z) d s o k h ho hk =
-    record { insn = Load z (reg d h.dst) (reg s h.src) o; is = ho; fields = same_fields _ _ refl refl refl refl (sym h.no_imm); alone = refl }
+    record { insn = Load z (reg d h.dst) (reg s h.src) o; is = (h.dst, h.src, ho); fields = same_fields _ _ refl refl refl refl (sym h.no_imm); alone = refl }
 plain_insn (form.LoadSigned z) d s o k h ho hk =
-    record { insn = LoadSigned z (reg d h.dst) (reg s h.src) o; is = ho; fields = same_fields _ _ refl refl refl refl (sym h.no_imm); alone = refl }
+    record { insn = LoadSigned z (reg d h.dst) (reg s h.src) o; is = (h.dst, h.src, ho); fields = same_fields _ _ refl refl refl refl (sym h.no_imm); alone = refl }
 plain_insn (form.StoreImm z) d s o k h ho hk =
-    record { insn = StoreImm z (reg d h.dst) o k; is = (ho, hk); fields = same_fields _ _ refl refl (sym h.no_src) refl refl; alone = refl }
+    record { insn = StoreImm z (reg d h.dst) o k; is = (h.dst, ho, hk); fields = same_fields _ _ refl refl (sym h.no_src) refl refl; alone = refl }
 plain_insn (form.StoreReg z) d s o k h ho hk =
-    record { insn = StoreReg z (reg d h.dst) (reg s h.src) o; is = ho; fields = same_fields _ _ refl refl refl refl (sym h.no_imm); alone = refl }
+    record { insn = StoreReg z (reg d h.dst) (reg s h.src) o; is = (h.dst, h.src, ho); fields = same_fields _ _ refl refl refl refl (sym h.no_imm); alone = refl }
 plain_insn (form.Atomic width) d s o k h ho hk = absurd h
 plain_insn form.Wide d s o k h ho hk = absurd h
 plain_insn (form.PacketAbs z) d s o k h ho hk =
     record { insn = PacketAbs z k; is = hk; fields = same_fields _ _ refl (sym h.no_dst) (sym h.no_src) (sym h.no_off) refl; alone = refl }
 plain_insn (form.PacketInd z) d s o k h ho hk =
-    record { insn = PacketInd z (reg s h.src) k; is = hk; fields = same_fields _ _ refl (sym h.no_dst) refl (sym h.no_off) refl; alone = refl }
+    record { insn = PacketInd z (reg s h.src) k; is = (h.src, hk); fields = same_fields _ _ refl (sym h.no_dst) refl (sym h.no_off) refl; alone = refl }
 
 plain_is_insn : (slot : Fields) → AreFields slot → IsPlain slot → IsOneSlot slot
 plain_is_insn slot a h = by_form (form_at slot.opcode) refl h

@@ -84,11 +84,11 @@ module _ (order : Order) (d : Reg) (s : ℕ) (k : ℤ) (rest : List ℕ) (hs : s
   agrees_imm : AgreesThrough order Imm (Wide d (wide_load s k hs hk).what) (spelled order (head d s k) ++ rest)
   agrees_imm =
       let load = wide_load s k hs hk in
-      let same = field.compared order (Wide d load.what) (head d s k) rest load.is head_in_range in
+      let same = field.compared order (Wide d load.what) (head d s k) rest (d.in_range, load.is) head_in_range in
       (same.opcode.1 refl, same.dst.1 refl, same.src.1 load.source, same.off.1 refl, same.imm.1 load.imm)
 
   some_imm : SomeAgreesThrough order Imm (spelled order (head d s k) ++ rest)
-  some_imm = (Wide d (wide_load s k hs hk).what, (wide_load s k hs hk).is, agrees_imm)
+  some_imm = (Wide d (wide_load s k hs hk).what, (d.in_range, (wide_load s k hs hk).is), agrees_imm)
 
   -- an instruction that agrees on the opcode is a wide load
   wide_by_opcode : (i : Insn) → IsInsn i → Agrees order Opcode i (spelled order (head d s k) ++ rest) → IsWideLoad i
@@ -122,7 +122,7 @@ module _ (order : Order) (d : Reg) (s : ℕ) (k : ℤ) (rest : List ℕ) (hs : s
   some_reserved e =
       let load = wide_load s k hs hk in
       let g = agrees_imm in
-      (Wide d load.what, load.is, (g.0, g.1, g.2, g.3, g.4, (wide_words order d load.what).0 ∙ sym e ∙ sym (value_of_reserved order (head d s k) rest)))
+      (Wide d load.what, (d.in_range, load.is), (g.0, g.1, g.2, g.3, g.4, (wide_words order d load.what).0 ∙ sym e ∙ sym (value_of_reserved order (head d s k) rest)))
 
   whole_length : length (spelled order (head d s k) ++ rest) ≡ 8 + length rest
   whole_length = omega (arith, length-append (spelled order (head d s k)) rest, slot_length order (head d s k))

@@ -1,9 +1,9 @@
 -- Only private contracts cite this file.
 -- Plain instructions, in which each field after the opcode can be checked by itself, and these checks as bits of a number.
-use Rattle.std.specs.Prelude.{◌≡◌, ℕ, ◌+◌, ◌*◌, ◌/◌, ◌%◌, ◌≤◌, pos, Bool, true, false, Option, Some, None, IsSomeAnd, option_and_then}
+use Rattle.std.specs.Prelude.{◌≡◌, ℕ, ◌+◌, ◌*◌, ◌/◌, ◌%◌, pos, Bool, true, false, Option, Some, None, IsSomeAnd, option_and_then}
 use Rattle.std.specs.Bool.{OnFalse}
 use Rattle.bpf_words.specs.{declared.Order.Order, Slots.Fields, Slots.register_byte}
-use Rattle.bpf_insn.specs.Forms.{form_at}
+use Rattle.bpf_insn.specs.{Forms.form_at, Table.IsReg}
 use Rattle.bpf_insn.specs.declared.form.{Source.Source, Source.TheVariants.K, Source.TheVariants.X, Form.Form}
 use Rattle.bpf_insn.specs.declared.form.Form.TheVariants.{Alu, Neg, Jump, JumpLong, Branch, Call, Exit, Load, LoadSigned, StoreImm, StoreReg, PacketAbs, PacketInd}
 
@@ -14,10 +14,10 @@ pub record Rule : Type 0 where
   pub any_off : Bool
   pub any_imm : Bool
 
--- a rule allows the fields, and the registers are at most r10
+-- a rule allows the fields, and both registers exist
 pub record IsWithin (r : Rule) (slot : Fields) : Type 0 where
-  pub dst : slot.dst ≤ 10
-  pub src : slot.src ≤ 10
+  pub dst : IsReg slot.dst
+  pub src : IsReg slot.src
   pub no_dst : OnFalse r.any_dst (slot.dst ≡ 0)
   pub no_src : OnFalse r.any_src (slot.src ≡ 0)
   pub no_off : OnFalse r.any_off (slot.off ≡ pos 0)

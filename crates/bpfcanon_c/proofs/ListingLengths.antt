@@ -23,7 +23,7 @@ use Rattle.bpf_insn.specs.declared.insn.AtomicOp.TheVariants as atomic
 use Rattle.bpf_insn.specs.declared.insn.{WideOf.WideOf, Insn.Insn}
 use Rattle.bpf_insn.specs.declared.insn.WideOf.TheVariants.{Number, MapFd, MapValueFd, VarAddr, CodeAddr, MapIdx, MapValueIdx}
 use Rattle.bpf_insn.specs.declared.insn.Insn.TheVariants.{Alu, Movsx, Neg, Swap, Jump, JumpLong, Branch, CallHelper, CallLocal, CallBtf, Exit, Load, LoadSigned, StoreImm, StoreReg, Atomic, Wide, PacketAbs, PacketInd}
-use Rattle.bpf_insn.specs.Table.{IsInsn, IsOperand, fields_of, next_imm_of, wide_next_imm}
+use Rattle.bpf_insn.specs.Table.{IsInsn, IsOperand, IsWideOf, fields_of, next_imm_of, wide_next_imm}
 use Rattle.bpf_insn.specs.Spelling.{InsnFile, file_of, second_slot, spelling}
 use Rattle.bpf_words.proofs.SlotLemmas.{slot_length}
 use Rattle.bpf_insn.proofs.{FileLaws.at_least_a_slot, WideLemmas.second_length}
@@ -106,7 +106,7 @@ three : (m : List ℕ) (a b c : LineOperand) → length (m ++ spaced (a ∷ b �
 three m a b c = omega (arith, length-append m (spaced (a ∷ b ∷ c ∷ [])), then a (operand_text b ++ codes ", " ++ operand_text c), then b (operand_text c))
 
 -- the line of a wide load
-wide_line : (d : reg.Reg) (what : WideOf) → IsInsn (Wide d what) → length (line_of (Wide d what)) ≤ 63
+wide_line : (d : reg.Reg) (what : WideOf) → IsWideOf what → length (line_of (Wide d what)) ≤ 63
 wide_line d (Number n) h = omega (arith, two (codes "lddw") (register d) (number (pos n)), register_length d, length-decimal-le 20 n (omega arith) (omega (arith, h)) h)
 wide_line d (MapFd k) h = omega (arith, two (codes "lddw_map") (register d) (number k), register_length d, imm_length k h)
 wide_line d (MapValueFd k m) h = omega (arith, three (codes "lddw_map_value") (register d) (number k) (number m), register_length d, imm_length k h.0, imm_length m h.1)
@@ -124,7 +124,7 @@ wide_length o d what =
 -- the line of an instruction with its newline: jsgt32 r10, -2147483648, -32768 has 32 bytes
 line_length : (o : Order) (i : Insn) → IsInsn i → length (line_of i) + 1 ≤ 4 * length (spelling o i)
 line_length o (Alu width op d arg) h =
-    omega (arith, at_least_a_slot o (Alu width op d arg), two (mnemonic_text (Alu width op d arg)) (register d) (source_operand arg), length-append (alu_mnemonic op) (width_suffix width), alu_length op, width_length width, register_length d, source_length arg h)
+    omega (arith, at_least_a_slot o (Alu width op d arg), two (mnemonic_text (Alu width op d arg)) (register d) (source_operand arg), length-append (alu_mnemonic op) (width_suffix width), alu_length op, width_length width, register_length d, source_length arg h.1)
 line_length o (Movsx form d s) h =
     omega (arith, at_least_a_slot o (Movsx form d s), two (movsx_mnemonic form) (register d) (register s), movsx_length form, register_length d, register_length s)
 line_length o (Neg width d) h =
@@ -134,26 +134,26 @@ line_length o (Swap kind bits d) h =
 line_length o (Jump z) h = omega (arith, at_least_a_slot o (Jump z), one (codes "ja") (signed z), offset_length z h)
 line_length o (JumpLong k) h = omega (arith, at_least_a_slot o (JumpLong k), one (codes "ja32") (signed k), distance_length k h)
 line_length o (Branch width op d arg z) h =
-    omega (arith, at_least_a_slot o (Branch width op d arg z), three (mnemonic_text (Branch width op d arg z)) (register d) (source_operand arg) (signed z), length-append (branch_mnemonic op) (width_suffix width), branch_length op, width_length width, register_length d, source_length arg h.0, offset_length z h.1)
+    omega (arith, at_least_a_slot o (Branch width op d arg z), three (mnemonic_text (Branch width op d arg z)) (register d) (source_operand arg) (signed z), length-append (branch_mnemonic op) (width_suffix width), branch_length op, width_length width, register_length d, source_length arg h.1, offset_length z h.2)
 line_length o (CallHelper k) h = omega (arith, at_least_a_slot o (CallHelper k), one (codes "call") (number k), imm_length k h)
 line_length o (CallLocal k) h = omega (arith, at_least_a_slot o (CallLocal k), one (codes "call_local") (signed k), distance_length k h)
 line_length o (CallBtf k z) h = omega (arith, at_least_a_slot o (CallBtf k z), two (codes "call_btf") (number k) (number z), imm_length k h.0, small_length z h.1)
 line_length o Exit h = omega (arith, at_least_a_slot o Exit)
 line_length o (Load z d s k) h =
-    omega (arith, at_least_a_slot o (Load z d s k), two (mnemonic_text (Load z d s k)) (register d) (memory s k), length-append (codes "ldx") (size_suffix z), size_length z, register_length d, memory_length s k h)
+    omega (arith, at_least_a_slot o (Load z d s k), two (mnemonic_text (Load z d s k)) (register d) (memory s k), length-append (codes "ldx") (size_suffix z), size_length z, register_length d, memory_length s k h.2)
 line_length o (LoadSigned z d s k) h =
-    omega (arith, at_least_a_slot o (LoadSigned z d s k), two (mnemonic_text (LoadSigned z d s k)) (register d) (memory s k), length-append (codes "ldxs") (small_size_suffix z), small_size_length z, register_length d, memory_length s k h)
+    omega (arith, at_least_a_slot o (LoadSigned z d s k), two (mnemonic_text (LoadSigned z d s k)) (register d) (memory s k), length-append (codes "ldxs") (small_size_suffix z), small_size_length z, register_length d, memory_length s k h.2)
 line_length o (StoreImm z d k n) h =
-    omega (arith, at_least_a_slot o (StoreImm z d k n), two (mnemonic_text (StoreImm z d k n)) (memory d k) (number n), length-append (codes "st") (size_suffix z), size_length z, memory_length d k h.0, imm_length n h.1)
+    omega (arith, at_least_a_slot o (StoreImm z d k n), two (mnemonic_text (StoreImm z d k n)) (memory d k) (number n), length-append (codes "st") (size_suffix z), size_length z, memory_length d k h.1, imm_length n h.2)
 line_length o (StoreReg z d s k) h =
-    omega (arith, at_least_a_slot o (StoreReg z d s k), two (mnemonic_text (StoreReg z d s k)) (memory d k) (register s), length-append (codes "stx") (size_suffix z), size_length z, memory_length d k h, register_length s)
+    omega (arith, at_least_a_slot o (StoreReg z d s k), two (mnemonic_text (StoreReg z d s k)) (memory d k) (register s), length-append (codes "stx") (size_suffix z), size_length z, memory_length d k h.2, register_length s)
 line_length o (Atomic width op d s k) h =
-    omega (arith, at_least_a_slot o (Atomic width op d s k), two (mnemonic_text (Atomic width op d s k)) (memory d k) (register s), length-append (atomic_mnemonic op) (width_suffix width), atomic_length op, width_length width, memory_length d k h, register_length s)
-line_length o (Wide d what) h = omega (arith, wide_length o d what, wide_line d what h)
+    omega (arith, at_least_a_slot o (Atomic width op d s k), two (mnemonic_text (Atomic width op d s k)) (memory d k) (register s), length-append (atomic_mnemonic op) (width_suffix width), atomic_length op, width_length width, memory_length d k h.2, register_length s)
+line_length o (Wide d what) h = omega (arith, wide_length o d what, wide_line d what h.1)
 line_length o (PacketAbs z k) h =
     omega (arith, at_least_a_slot o (PacketAbs z k), one (mnemonic_text (PacketAbs z k)) (number k), length-append (codes "ldabs") (small_size_suffix z), small_size_length z, imm_length k h)
 line_length o (PacketInd z s k) h =
-    omega (arith, at_least_a_slot o (PacketInd z s k), two (mnemonic_text (PacketInd z s k)) (register s) (number k), length-append (codes "ldind") (small_size_suffix z), small_size_length z, register_length s, imm_length k h)
+    omega (arith, at_least_a_slot o (PacketInd z s k), two (mnemonic_text (PacketInd z s k)) (register s) (number k), length-append (codes "ldind") (small_size_suffix z), small_size_length z, register_length s, imm_length k h.1)
 
 -- ---- listings
 

@@ -146,7 +146,7 @@ of_wide o s rest second f g at cut taken is range d what b same =
     let after : rest ≡ tail ++ b.1.0 = cut ∙ ap (λ (x : List ℕ). drop 8 x) whole ∙ drop_at first (tail ++ b.1.0) 8 (slot_length o (fields_of (Wide d what))) in
     let bytes : second ≡ tail = taken ∙ ap (λ (x : List ℕ). take 8 x) after ∙ take_at tail b.1.0 8 (second_length o k) in
     let next : g ≡ second_fields k =
-    spelled-injective o g (second_fields k) range (second_in_range k (wide_next_fits what b.0)) (sym is ∙ bytes ∙ sym (second_spelled o k))
+    spelled-injective o g (second_fields k) range (second_in_range k (wide_next_fits what b.0.1)) (sym is ∙ bytes ∙ sym (second_spelled o k))
     in (
       ap (λ (x : Fields). wide_row at f x.imm) next ∙ ap (λ (x : Fields). wide_row at x k) (sym same),
       sym (wide_length o d what),

@@ -1,8 +1,8 @@
 //! Registers and their numbers.
 
-ghost use Rattle.std.specs.Prelude.{◌≡◌, ◌<◌, ◌≤◌, ◌++◌, Some, codes, MatchOption, MatchResult};
+ghost use Rattle.std.specs.Prelude.{◌≡◌, ◌<◌, ◌++◌, Some, codes, MatchOption, MatchResult};
 ghost use Rattle.std.specs.Fmt.{decimal};
-ghost use Rattle.bpf_insn.specs.Table.{register_number};
+ghost use Rattle.bpf_insn.specs.Table.{IsReg, register_number};
 
 use crate::Reg;
 use std::fmt;
@@ -11,7 +11,8 @@ use thiserror::Error;
 impl Reg {
     /// The register with this number, or `None` if the number is above 10.
     pub fn new(number: u8) -> Option<Reg>
-        ensures { MatchOption result (10 < number) (λ r. register_number r ≡ number) }
+        ensures { MatchOption result (10 < number)
+            (λ r. IsReg number × (register_number r ≡ number)) }
     {
         if number <= 10 {
             Some(Reg { number })
@@ -22,7 +23,7 @@ impl Reg {
 
     /// The register with this number.
     pub(crate) fn numbered(number: u8) -> Reg
-        requires { number ≤ 10 }
+        requires { IsReg number }
         ensures { register_number result ≡ number }
     {
         Reg { number }
@@ -46,7 +47,7 @@ impl TryFrom<u8> for Reg {
     type Error = NoSuchReg;
 
     ghost try_from_gives = { λ number r.
-        MatchResult r (λ reg. register_number reg ≡ number)
+        MatchResult r (λ reg. IsReg number × (register_number reg ≡ number))
         (λ fault. 10 < number × fault.0 ≡ number) };
 
     fn try_from(number: u8) -> Result<Reg, NoSuchReg> {

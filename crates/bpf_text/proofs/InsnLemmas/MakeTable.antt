@@ -6,7 +6,7 @@ use Rattle.bpf_insn.specs.declared.insn.Operand.TheVariants as operand
 use Rattle.bpf_insn.specs.declared.insn.WideOf.TheVariants as of
 use Rattle.bpf_insn.specs.declared.insn.Insn.{Insn}
 use Rattle.bpf_insn.specs.declared.insn.Insn.TheVariants as insn
-use Rattle.bpf_insn.specs.Table.{IsInsn}
+use Rattle.bpf_insn.specs.Table.{IsInsn, IsReg, register_number}
 use Rattle.bpf_text.specs.declared.insn.fault.LineCause.{LineCause, TheVariants.Shape, TheVariants.Range}
 use Rattle.bpf_text.specs.declared.insn.mnemonic.WideKind.TheVariants as kind
 use Rattle.bpf_text.specs.declared.insn.{mnemonic.Mnemonic.Mnemonic, read_operand.ReadOperand.ReadOperand}
@@ -127,9 +127,12 @@ some_fields _ = pos 0
 pub some_insn : (m : Mnemonic) → (i : Insn) × (mnemonic_of i ≡ m)
 some_insn m = (insn_of m (some_fields m), named m (some_fields m))
 
+is_reg : (r : Reg) → IsReg (register_number r)
+is_reg r = r.in_range
+
 sound : (m : Mnemonic) (x : Fields m) → (fields_of m).valid x → IsInsn (insn_of m x)
-sound (Wide kind.Number) x v = search rules
-sound _ x v = search rules
+sound (Wide kind.Number) x v = search (rules, is_reg)
+sound _ x v = search (rules, is_reg)
 
 -- the instruction is made from fields of the mnemonic's form
 abbrev Made : Mnemonic → Insn → Type 0
@@ -137,30 +140,30 @@ Made m i = (x : Fields m) × (map plain (operands_of i) ≡ (fields_of m).writte
 
 -- each instruction is made from fields of its own mnemonic's form
 made : (i : Insn) → Made (mnemonic_of i) i
-made (insn.Alu w o d arg) = ((d, arg), ap (λ a. register d ∷ a ∷ []) (operand_plain arg), (λ v. (tt, v)))
+made (insn.Alu w o d arg) = ((d, arg), ap (λ a. register d ∷ a ∷ []) (operand_plain arg), (λ v. (tt, v.1)))
 made (insn.Movsx f d s) = ((d, s), refl, (λ v. (tt, tt)))
 made (insn.Neg w d) = (d, refl, (λ v. tt))
 made (insn.Swap k b d) = (d, refl, (λ v. tt))
 made (insn.Jump o) = (o, refl, (λ v. v))
 made (insn.JumpLong k) = (k, refl, (λ v. v))
-made (insn.Branch w p d arg o) = ((d, (arg, o)), ap (λ a. register d ∷ a ∷ number o ∷ []) (operand_plain arg), (λ v. (tt, v)))
+made (insn.Branch w p d arg o) = ((d, (arg, o)), ap (λ a. register d ∷ a ∷ number o ∷ []) (operand_plain arg), (λ v. (tt, (v.1, v.2))))
 made (insn.CallHelper k) = (k, refl, (λ v. v))
 made (insn.CallLocal k) = (k, refl, (λ v. v))
 made (insn.CallBtf k o) = ((k, o), refl, (λ v. v))
-made (insn.Load z d s o) = ((d, (s, o)), refl, (λ v. (tt, v)))
-made (insn.LoadSigned z d s o) = ((d, (s, o)), refl, (λ v. (tt, v)))
-made (insn.StoreImm z d o k) = (((d, o), k), refl, (λ v. v))
-made (insn.StoreReg z d s o) = (((d, o), s), refl, (λ v. (v, tt)))
-made (insn.Atomic w p d s o) = (((d, o), s), refl, (λ v. (v, tt)))
-made (insn.Wide d (of.Number n)) = ((d, n), refl, (λ v. (tt, v)))
-made (insn.Wide d (of.MapFd k)) = ((d, k), refl, (λ v. (tt, v)))
-made (insn.Wide d (of.MapValueFd k m)) = ((d, (k, m)), refl, (λ v. (tt, v)))
-made (insn.Wide d (of.VarAddr k m)) = ((d, (k, m)), refl, (λ v. (tt, v)))
-made (insn.Wide d (of.CodeAddr k)) = ((d, k), refl, (λ v. (tt, v)))
-made (insn.Wide d (of.MapIdx k)) = ((d, k), refl, (λ v. (tt, v)))
-made (insn.Wide d (of.MapValueIdx k m)) = ((d, (k, m)), refl, (λ v. (tt, v)))
+made (insn.Load z d s o) = ((d, (s, o)), refl, (λ v. (tt, v.2)))
+made (insn.LoadSigned z d s o) = ((d, (s, o)), refl, (λ v. (tt, v.2)))
+made (insn.StoreImm z d o k) = (((d, o), k), refl, (λ v. (v.1, v.2)))
+made (insn.StoreReg z d s o) = (((d, o), s), refl, (λ v. (v.2, tt)))
+made (insn.Atomic w p d s o) = (((d, o), s), refl, (λ v. (v.2, tt)))
+made (insn.Wide d (of.Number n)) = ((d, n), refl, (λ v. (tt, v.1)))
+made (insn.Wide d (of.MapFd k)) = ((d, k), refl, (λ v. (tt, v.1)))
+made (insn.Wide d (of.MapValueFd k m)) = ((d, (k, m)), refl, (λ v. (tt, v.1)))
+made (insn.Wide d (of.VarAddr k m)) = ((d, (k, m)), refl, (λ v. (tt, v.1)))
+made (insn.Wide d (of.CodeAddr k)) = ((d, k), refl, (λ v. (tt, v.1)))
+made (insn.Wide d (of.MapIdx k)) = ((d, k), refl, (λ v. (tt, v.1)))
+made (insn.Wide d (of.MapValueIdx k m)) = ((d, (k, m)), refl, (λ v. (tt, v.1)))
 made (insn.PacketAbs z k) = (k, refl, (λ v. v))
-made (insn.PacketInd z s k) = ((s, k), refl, (λ v. (tt, v)))
+made (insn.PacketInd z s k) = ((s, k), refl, (λ v. (tt, v.1)))
 made insn.Exit = (tt, refl, (λ v. tt))
 
 -- likewise for each instruction with this mnemonic

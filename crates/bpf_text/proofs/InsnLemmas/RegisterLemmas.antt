@@ -2,7 +2,7 @@
 use Rattle.std.proofs.Common.{◌≡◌, ℕ, ◌+◌, ◌<◌, ◌≤◌, List, [], ◌∷◌, ◌++◌, length, get_or, inl, inr, Option, Some, None, refl, sym, ap, ◌∙◌, subst, codes, arith, IfSome, MatchOption}
 use Rattle.std.specs.Fmt.{digits, decimal}
 use Rattle.std.proofs.lemmas.Bool.{cases_lt}
-use Rattle.bpf_insn.specs.declared.insn.Reg.{Reg}
+use Rattle.bpf_insn.specs.{Table.IsReg, declared.insn.Reg.Reg}
 use Rattle.bpf_text.specs.insn.Operands.{SpellsRegister}
 
 -- a number from k on is k, or from k + 1 on
@@ -22,9 +22,9 @@ unfolding digits
 last_register_text = refl
 
 -- what `Reg::new` returns for the register that the token spells
-pub spelled_by_new : (token : List ℕ) (n : ℕ) (r : Option Reg) → token ≡ codes "r" ++ decimal n → MatchOption r (10 < n) (λ k. k.number ≡ n) → IfSome r (SpellsRegister token)
+pub spelled_by_new : (token : List ℕ) (n : ℕ) (r : Option Reg) → token ≡ codes "r" ++ decimal n → MatchOption r (10 < n) (λ k. IsReg n × (k.number ≡ n)) → IfSome r (SpellsRegister token)
 spelled_by_new token n None e h = tt
-spelled_by_new token n (Some k) e h = e ∙ ap (λ x. codes "r" ++ decimal x) (sym h)
+spelled_by_new token n (Some k) e h = e ∙ ap (λ x. codes "r" ++ decimal x) (sym h.1)
 
 -- a token of two or three bytes that spells a register
 pub two_bytes_spell : (token : List ℕ) (n : ℕ) → 2 ≤ length token → length token < 3 → get_or token 0 0 ≡ 114 → get_or token 1 0 ≡ 48 + n → n ≤ 9 → token ≡ codes "r" ++ decimal n

@@ -28,9 +28,9 @@ operand_writable (Imm k) h = near_imm k h
 operand_writable (Reg r) h = tt
 
 writable : (i : Insn) → IsInsn i → AreWritable (operands_of i)
-writable (Alu width op d arg) h = (tt, (operand_writable arg h, tt))
-writable (Branch width op d arg o) h = (tt, (operand_writable arg h.0, (near_offset o h.1, tt)))
-writable (Wide d (Number n)) h = (tt, (h, tt))
+writable (Alu width op d arg) h = (tt, (operand_writable arg h.1, tt))
+writable (Branch width op d arg o) h = (tt, (operand_writable arg h.1, (near_offset o h.2, tt)))
+writable (Wide d (Number n)) h = (tt, (h.1, tt))
 writable (Wide d _) h = search (rules, near_imm)
 writable _ h = search (rules, near_offset, near_imm)
 
