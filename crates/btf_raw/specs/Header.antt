@@ -4,13 +4,15 @@ use Rattle.bpf_words.specs.{declared.Order.Order, Words.word16, Words.word32, Wo
 use Rattle.btf_raw.specs.declared.cause.BtfCause.{BtfCause}
 use Rattle.btf_raw.specs.declared.cause.BtfCause.TheVariants.{ShortHeader, Magic, Version, Flags, HeaderLength, HeaderTail, TypeLength, StringLength, Sections, FileLength, FirstString, LastString}
 
--- the limits of the header and of the two sections
+-- the largest length of a header in bytes
 abbrev pub HEADER_LIMIT : ℕ
 HEADER_LIMIT = 4096
 
+-- the largest length of a type section in bytes
 abbrev pub TYPES_LIMIT : ℕ
 TYPES_LIMIT = 33554432
 
+-- the largest length of a string section in bytes
 abbrev pub STRINGS_LIMIT : ℕ
 STRINGS_LIMIT = 16777216
 

@@ -2,8 +2,10 @@
 //! the law.
 
 ghost use Rattle.std.specs.Prelude.{◌≡◌};
+ghost use Rattle.btf_raw.specs.Header as spec;
 ghost use Rattle.btf_raw.specs.KindNumbers as standard;
 
+use crate::header::{HEADER_LIMIT, STRINGS_LIMIT, TYPES_LIMIT};
 use crate::kinds::*;
 
 /// Each constant for a kind is the number of that kind in the standard (btf.rst section 2.2).
@@ -27,4 +29,12 @@ pub fn kinds_have_their_numbers()
     ensures decl_tag { DECL_TAG ≡ standard.DECL_TAG }
     ensures type_tag { TYPE_TAG ≡ standard.TYPE_TAG }
     ensures enum64 { ENUM64 ≡ standard.ENUM64 }
+{}
+
+/// Each limit is the one that the definitions of a file state: for the header, the type section and
+/// the string section.
+pub fn limits_have_their_numbers()
+    ensures header { HEADER_LIMIT ≡ spec.HEADER_LIMIT }
+    ensures types { TYPES_LIMIT ≡ spec.TYPES_LIMIT }
+    ensures strings { STRINGS_LIMIT ≡ spec.STRINGS_LIMIT }
 {}
