@@ -40,7 +40,7 @@ fn main() {
 
 /// A folder without the shared library gives the static one.
 fn kind_of_library(folder: &Path) -> &'static str {
-    let is_wanted = env::var_os("BPFCANON_STATIC").is_some_and(|value| value == "1");
+    let is_wanted = env::var_os("BPFCANON_STATIC").map_or(false, |value| value == "1");
     if is_wanted || !folder.join("libbpfcanon.so").exists() {
         "static"
     } else {

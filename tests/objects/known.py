@@ -3,7 +3,7 @@
 from __future__ import annotations
 
 from dataclasses import replace
-from typing import Callable, Iterable, Iterator, NamedTuple
+from typing import Callable, Iterable, NamedTuple
 
 from tests.objects.btf_changes import btf_of, extension_of, set_btf, set_extension
 from tests.objects.btf_file import CORE, FUNCTIONS, LINES, Group, Record
@@ -360,11 +360,9 @@ DIFFERENCES = (
 )
 
 
-def known_objects(bases: Iterable[Base]) -> Iterator[tuple[Known, bytes, bytes]]:
-    """Each difference with its base, which is written in the same way, and the changed one."""
-    by_name = {it.name: it for it in bases}
-    for known in DIFFERENCES:
-        file = ElfFile.read(by_name[f"{known.base} bpf -g"].content)
-        base = bytes(file.write())
-        known.change(file)
-        yield known, base, bytes(file.write())
+def objects_of(bases: Iterable[Base], known: Known) -> tuple[bytes, bytes]:
+    """The base of a difference, which is written in the same way, and the changed one."""
+    file = ElfFile.read(next(it.content for it in bases if it.name == f"{known.base} bpf -g"))
+    base = bytes(file.write())
+    known.change(file)
+    return base, bytes(file.write())

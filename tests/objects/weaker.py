@@ -10,7 +10,7 @@ from concurrent.futures import ProcessPoolExecutor
 from typing import Iterator, NamedTuple, Sequence
 
 from tests.objects.compared import CHUNK, Setup, Worker, viewed
-from tests.objects.known import known_objects
+from tests.objects.known import DIFFERENCES, objects_of
 
 # The first line has the number of the form. libbpf refuses each object of the other byte order, and skips other sections: both lines are
 # there for loaders that don't.
@@ -53,8 +53,8 @@ def merged(objects: Sequence[Lines], word: str) -> Iterator[tuple[int, int]]:
 
 def known_words(setup: Setup) -> Iterator[str]:
     """The kind of line that tells a known difference apart, if it is only one."""
-    for _, base, other in known_objects(setup.bases):
-        lines = lines_of(base), lines_of(other)
+    for known in DIFFERENCES:
+        lines = tuple(map(lines_of, objects_of(setup.bases, known)))
         words = {first_word(it) for it in lines[0] ^ lines[1]}
         if all(lines) and len(words) == 1:
             yield words.pop()

@@ -4,7 +4,7 @@
 
 Each test of a reader fails if one call of the library returns a wrong answer (wrong_answers.c). It also fails if a field of a row is wrong
 (wrong_vectors.py): with a wrong field in the first row or the last it fails, and if each row has one it names the line of each. A row that
-is left out, doubled or replaced by another is no mistake of a reader: tests/sources/vector_file.py refuses such a file.
+is left out, doubled or replaced by another is no mistake of a reader: tests/sources/test_vector_file.py refuses such a file.
 
 PREFIX has the C library. A READER is c, go, python or rust: FOLDER contains c_vectors, go_vectors and rust_vectors, built over the library.
 """

@@ -12,7 +12,7 @@ from typing import Callable, Iterator, Optional
 
 from tests.reference import btf_reference, insn_reference
 from tests.reference.insn_page import SLOT, TWO
-from tests.sources.causes import table
+from tests.sources.tables import table
 from tests.vector_rows import COLUMNS, VECTORS, data, is_bytes
 
 Row = dict[str, str]

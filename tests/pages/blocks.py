@@ -32,6 +32,7 @@ TESTS = {
     ("docs/ADDING.md", "diff"): ("tests/pages/adding.py", None),
     ("README.md", "console"): ("tests/pages/readme.py", 1),
     ("README.md", "python"): ("tests/pages/readme.py", 1),
+    ("README.md", "text"): ("tests/pages/plugin.py", 1),
     ("docs/LIBRARY.md", "c"): ("tests/c_interface/run", 3),
     ("docs/LIBRARY.md", "go"): ("tests/pages/object_examples.py", 1),
     ("docs/LIBRARY.md", "python"): ("tests/pages/object_examples.py", 1),

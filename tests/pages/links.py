@@ -84,7 +84,7 @@ def main():
     names = [str(path.relative_to(TOP)) for path in files_of("**/*")]
     with report.group("the length of README, and the pages that it names"):
         length = len(PAGES[0].read_text().splitlines())
-        report.expect_that(length <= 150, "README.md", f"it has {length} lines, and at most 150 are read")
+        report.expect_that(length <= 160, "README.md", f"it has {length} lines, and at most 160 are read")
         for page in TOP.glob("docs/*.md"):
             report.expect_that(f"docs/{page.name}" in PAGES[0].read_text(), page.name, "README doesn't name it")
     for page in PAGES:

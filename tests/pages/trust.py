@@ -17,7 +17,7 @@ import tempfile
 from tests import TOP
 from tests.pages.readme import typed_lines
 from tests.program import SECONDS, Report
-from tests.sources.definitions import cells, loaded
+from tests.sources.tables import cells, loaded
 
 FIGURES = loaded("figures")
 FOUND = FIGURES.Definitions()

@@ -83,8 +83,8 @@ def check_languages(report):
             found = found_on_pages(rf"\b{language} (\d[\d.]*\d) or later")
             expect_all(report, language, found, right, ["packaging/README.release", f"bindings/{language.lower()}/README.md"])
             if language == "Python":
-                control = re.findall(r"^X-Python3-Version: >= (.*)$", (TOP / "packaging/debian/control").read_text(), re.MULTILINE)
-                report.expect_that(control == [right], "packaging/debian/control", f"it has {control}")
+                control = re.findall(r"^X-Python3-Version: >= (.*)$", (TOP / "debian/control").read_text(), re.MULTILINE)
+                report.expect_that(control == [right], "debian/control", f"it has {control}")
             if language == "Rust":
                 needed = re.findall(r"rustc (\d[\d.]*\d) or later", joined(TOP / "docs" / "BUILDING.md"))
                 report.expect_that(needed == [right], "docs/BUILDING.md", f"it has {needed}")

@@ -1,8 +1,9 @@
 //! What all calls share: buffers for output, names of causes and strings of the library.
 
 use crate::{sys, Error};
-use std::ffi::{c_char, CStr};
+use std::ffi::CStr;
 use std::fmt;
+use std::os::raw::c_char;
 
 /// An enum of causes. The trait can't be named outside the crate, so no other type implements it.
 pub trait CauseNumber: Copy + fmt::Debug + fmt::Display + Send + Sync + 'static {

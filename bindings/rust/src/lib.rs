@@ -39,6 +39,9 @@
 //! [RFC 9669]: https://www.rfc-editor.org/rfc/rfc9669
 //! [BTF]: https://docs.kernel.org/bpf/btf.html
 
+#![warn(missing_docs, missing_debug_implementations, clippy::undocumented_unsafe_blocks)]
+#![deny(unsafe_op_in_unsafe_fn)]
+
 pub mod btf;
 mod call;
 mod error;

@@ -1,7 +1,7 @@
 //! The calls of `bpfcanon.h` that this crate makes, and the structs that they return.
 
 use crate::records::{InsnRecord, ItemRecord, TypeRecord};
-use std::ffi::c_char;
+use std::os::raw::c_char;
 
 pub(crate) const DONE: u32 = 0;
 pub(crate) const DIFFERENT: u32 = 1;

@@ -3,7 +3,7 @@
 
 use std::path::{Path, PathBuf};
 use std::process::{Command, Output};
-use std::sync::OnceLock;
+use std::sync::Once;
 use std::{env, fs};
 
 /// What changes the result of the script.
@@ -42,15 +42,15 @@ fn without_the_library_a_sentence_says_what_to_install() {
 }
 
 /// The script, compiled by itself: Cargo would compile the crate in each run, too.
-fn script() -> &'static Path {
-    static SCRIPT: OnceLock<PathBuf> = OnceLock::new();
-    SCRIPT.get_or_init(|| {
-        let made = Path::new(env!("CARGO_TARGET_TMPDIR")).join("build_script");
+fn script() -> PathBuf {
+    static SCRIPT: Once = Once::new();
+    let made = Path::new(env!("CARGO_TARGET_TMPDIR")).join("build_script");
+    SCRIPT.call_once(|| {
         let mut compiler = Command::new(Path::new(env!("CARGO")).with_file_name("rustc"));
         compiler.args(["--edition=2021", concat!(env!("CARGO_MANIFEST_DIR"), "/build.rs"), "-o"]);
         assert!(compiler.arg(&made).status().unwrap().success());
-        made
-    })
+    });
+    made
 }
 
 /// What the script prints with these variables, and none of the others; or the reason in brackets

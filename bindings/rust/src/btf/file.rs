@@ -85,7 +85,7 @@ impl<'a> Btf<'a> {
         let record = self.record(id);
         let range = record.map(|it| it.first as usize..it.first as usize + usize::from(it.items));
         let records = range.and_then(|it| self.items.get(it)).unwrap_or_default();
-        let is_signed = record.is_some_and(|it| it.flag == 1);
+        let is_signed = record.map_or(false, |it| it.flag == 1);
         Items { records: records.iter(), names: self.names, is_signed }
     }
 

@@ -61,7 +61,10 @@ impl<'a> Btf<'a> {
         let (mut seen, mut steps, mut limit) = (id, 0, 1);
         loop {
             let it = self.get(at).ok_or(ResolveError::NoSuchType(at))?;
-            let Some(target) = aliased(it) else { return Ok((at, it)) };
+            let target = match aliased(it) {
+                Some(target) => target,
+                None => return Ok((at, it)),
+            };
             if target == seen {
                 return Err(ResolveError::Circle(id));
             }

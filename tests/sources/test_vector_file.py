@@ -10,14 +10,14 @@ from __future__ import annotations
 import collections
 import functools
 import re
-import sys
 from typing import Iterator
 
+import pytest
+
 from tests.commands import COMMANDS, OPTIONS
-from tests.program import Report
 from tests.reference import btf_page, btf_reference, insn_page, insn_reference
 from tests.reference.formats_page import said
-from tests.vector_rows import COLUMNS, ROWS, VECTORS, data
+from tests.vector_rows import COLUMNS, ROWS, VECTORS, data, rows
 
 FORM = said("Formats", r"\*\*The canonical form is form (\d+)\.\*\*")[0]
 FIRST = re.compile(r"# Test vectors for BPF instructions \(RFC 9669\) and BTF, form (\d+): README\.md in this folder .*")
@@ -104,13 +104,56 @@ def faults(text: str) -> Iterator[str]:
             yield f"{what}: no row is about {sorted(right - found)}"
 
 
-def main() -> int:
-    report = Report()
-    with report.group("the file of the vectors"):
-        found = list(faults(VECTORS.read_text()))
-        report.expect_that(not found, VECTORS.name, "; ".join(found))
-    return report.end("the file of the vectors")
+def test_vectors() -> None:
+    assert list(faults(VECTORS.read_text())) == []
 
 
-if __name__ == "__main__":
-    sys.exit(main())
+@pytest.mark.parametrize("kind", ROWS)
+def test_rows(kind: str) -> None:
+    """As many rows are read as the file has."""
+    assert len(rows(kind)) == ROWS[kind] == len(re.findall(rf"^{kind}\t", VECTORS.read_text(), re.MULTILINE))
+
+
+# ---- files with a mistake, and words of what is wrong with each
+
+LINES = VECTORS.read_text().splitlines()
+
+
+def cases_of_rows() -> Iterator[tuple[str, list[str], str]]:
+    """For the first row and the last of each kind: without it, with it twice, and with a copy of the next one in its place."""
+    for kind in ROWS:
+        places = [at for at, line in enumerate(LINES) if line.startswith(f"{kind}\t")]
+        for at, other in (places[0], places[1]), (places[-1], places[-2]):
+            row, copied = LINES[at].split("\t"), LINES[other].split("\t")
+            before, after = LINES[:at], LINES[at + 1 :]
+            yield f"{kind}: line {at + 1} is left out", before + after, f"{kind}: it has {ROWS[kind] - 1} rows"
+            yield f"{kind}: line {at + 1} is doubled", [*before, LINES[at], LINES[at], *after], f"{kind}: 2 rows have"
+            yield f"{kind}: line {at + 1} is replaced", [*before, LINES[other], *after], f"{kind}: 2 rows have"
+            if kind != "insn":
+                yield f"{kind}: line {at + 1} keeps its name", [*before, "\t".join([kind, row[1], *copied[2:]]), *after], f"{kind}: 2 rows have"
+            yield f"{kind}: line {at + 1} lacks a field", [*before, "\t".join(row[:-1]), *after], "this is no row"
+
+
+def without(pattern: str) -> list[str]:
+    return [line for line in LINES if not re.search(pattern, line)]
+
+
+BY_REGISTER, BY_NUMBER = "mul r10, r9\t2f9a000000000000\t2fa9000000000000", "mul r9, 7\t2709000007000000\t2790000000000007"
+CASES = [
+    *cases_of_rows(),
+    ("form 2", [LINES[0].replace("form 1:", "form 2:"), *LINES[1:]], "form 1"),
+    ("no comment", LINES[1:], "form 1"),
+    ("another kind", [*LINES, "btf_fault\tname\t-\t-\t0\tMagic"], "this is no row"),
+    ("another row in place of mul r10, r9", [line.replace(BY_REGISTER, BY_NUMBER) for line in LINES], "['Alu Mul 64 src']"),
+    ("no packet", without(r"^insn\t.*\tpacket$"), "'packet'"),
+    ("no FLOAT", without(r"^btf\t.*\] float "), "'FLOAT'"),
+    ("no btf-check", without(r"^run\t[^\t]*\tbtf-check"), "'btf-check'"),
+    ("no --other big", without(r"^run\t.*--other[ =]big"), "'insn-same --other big'"),
+    ("no usage", without(r"^run\t[^\t]*\t[^\t]*\t[^\t]*\t2\t"), "['2']"),
+]
+
+
+@pytest.mark.parametrize("lines, words", [case[1:] for case in CASES], ids=[case[0] for case in CASES])
+def test_planted_fault(lines: list[str], words: str) -> None:
+    assert lines != LINES
+    assert any(words in fault for fault in faults("\n".join(lines) + "\n"))

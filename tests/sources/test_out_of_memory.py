@@ -1,7 +1,5 @@
 """Shows by the form of the sources that out of memory is only passed on, never invented.
 
-    python3 -m tests.sources.out_of_memory
-
 No contract can say that an allocator failed, so a body that returns this error for an input would be proved. It would have to name the
 error somewhere, though. rt ci refuses a file in another layout than rt fmt's, so each line of crates/*/src that names `AllocError`, a
 variant whose name ends in `Memory`, or its status in C, has to be one of these lines: anything else is refused, right or not. Comments,
@@ -9,10 +7,10 @@ strings and types don't count, nor does what only clauses can write, such as `Bt
 """
 
 import re
-import sys
+
+import pytest
 
 from tests import TOP
-from tests.program import Report
 
 CRATES = TOP / "crates"
 # comments, strings and characters
@@ -53,17 +51,36 @@ def wrong_lines(source):
     return [(number + 1, line) for number, line in enumerate(lines) if NAME.search(line) and not is_passed_on(lines, number)]
 
 
-def main():
-    report = Report()
-    with report.group("out of memory in the sources"):
-        for path in sorted(CRATES.glob("*/src/**/*.rt")):
-            name = str(path.relative_to(CRATES))
-            if "/tests" in name:
-                continue
-            wrong = wrong_lines(path.read_text())
-            report.expect_that(not wrong, name, f"out of memory isn't passed on in {wrong}")
-    return report.end("out of memory")
+FILES = [path for path in sorted(CRATES.glob("*/src/**/*.rt")) if "/tests" not in str(path.relative_to(CRATES))]
+INVENTED = """\
+        return Err(BtfError::Memory); // ≡
+    Memory,
+use crate::BtfError::Memory as Full;
+    None => Err(AllocError),
+    Err(_) => Err(RunCause::Memory),
+    BtfError::Fault(_) => Outcome::Memory,
+    ReadError::TooLong | ReadError::Memory => Outcome::Memory,
+    _ => Outcome::Memory,
+    Outcome::Memory
+impl From<BtfFault> for AllocError {
+    Err(_) => Ending::Memory,
+    BtfError::Memory => Outcome::BtfFault(fault),
+    BtfError::Memory => with_fault(2, fault),
+    Ending::Memory => with_status(0),""".splitlines()
+PASSED_ON = """\
+    Err(InsnError::Memory) => Err(BtfError::Memory),
+/// Out of memory: `AllocError`.
+    BtfError::Memory => Outcome::Memory,
+impl From<AllocError> for Outcome {
+    Ending::Memory => with_status(4),""".splitlines()
 
 
-if __name__ == "__main__":
-    sys.exit(main())
+@pytest.mark.parametrize("path", FILES, ids=lambda path: str(path.relative_to(CRATES)))
+def test_source(path):
+    """Out of memory is passed on."""
+    assert wrong_lines(path.read_text()) == []
+
+
+@pytest.mark.parametrize("line", INVENTED + PASSED_ON)
+def test_planted_line(line):
+    assert bool(list(wrong_lines(f"fn body()\n{line}\n"))) == (line in INVENTED)

@@ -1,19 +1,15 @@
 """Refuses a definition that imports a number, a table or a string from the code.
 
-    python3 -m tests.sources.spec_imports
-
 What a file of crates/NAME/specs says must not change with the code. It may name the types that the code declares, with their
 variants, and no constant. A constant of `src` is in a module `TheConstants`, so a file of definitions doesn't contain this name, even
 in a comment. Nor does it name proofs or contracts, since these may pass a constant on.
 """
 
-import pathlib
 import re
-import sys
-import tempfile
+
+import pytest
 
 from tests import TOP
-from tests.program import Report
 
 CONSTANTS = re.compile(r"\bTheConstants\b")
 # A part of a path, before or behind a dot: «proofs» is the same name.
@@ -53,42 +49,15 @@ def named(text):
     return found and found[0]
 
 
-def refused(top):
-    """Each file of definitions below a folder that is refused, with what it names."""
-    for file in sorted(top.glob("crates/*/specs/**/*.antt")):
-        name = named(file.read_text())
-        if name:
-            yield file, name
+FILES = sorted(TOP.glob("crates/*/specs/**/*.antt"))
 
 
-def check_sources(report):
-    """No file of definitions of this repository is refused."""
-    files = list(TOP.glob("crates/*/specs/**/*.antt"))
-    with report.group(f"{len(files)} files of definitions"):
-        report.expect_that(bool(files), "crates/*/specs", "there is no file of definitions")
-        for file, name in refused(TOP):
-            report.expect_that(False, str(file.relative_to(TOP)), f"it names `{name}`: a definition gives each number itself")
+@pytest.mark.parametrize("file", FILES, ids=lambda file: str(file.relative_to(TOP)))
+def test_definitions(file):
+    """A definition gives each number itself."""
+    assert named(file.read_text()) is None
 
 
-def check_forms(report):
-    """Each form is refused when it is planted, and what is allowed is not."""
-    with report.group(f"{len(REFUSED) + len(ALLOWED)} planted imports"):
-        for forms, wanted in ((REFUSED, True), (ALLOWED, False)):
-            for name, text in forms:
-                with tempfile.TemporaryDirectory() as folder:
-                    file = pathlib.Path(folder) / "crates" / "planted" / "specs" / "checks" / "Planted.antt"
-                    file.parent.mkdir(parents=True)
-                    file.write_text(f"-- A definition.\n{text}\n")
-                    is_refused = [found for found, _ in refused(pathlib.Path(folder))] == [file]
-                report.expect_that(is_refused == wanted, name, "it is not refused" if wanted else "it is refused")
-
-
-def main():
-    report = Report()
-    check_sources(report)
-    check_forms(report)
-    return report.end("imports of definitions")
-
-
-if __name__ == "__main__":
-    sys.exit(main())
+@pytest.mark.parametrize("text, is_refused", [(text, forms is REFUSED) for forms in (REFUSED, ALLOWED) for _, text in forms])
+def test_planted_import(text, is_refused):
+    assert bool(named(f"-- A definition.\n{text}\n")) == is_refused

@@ -1,20 +1,18 @@
 """Shows that a name that outlives its file does not compile, and that the same function with its lines in order does.
 
-    python3 -m tests.sources.outlived_names
-
 The names of a table of types are borrowed. Each function below keeps one, and drops the table and the file. It is a crate of its own, in a
 copy of the libraries that it needs, and `rt try` compiles it without any proof.
 """
 
-import pathlib
 import re
 import shutil
 import subprocess
-import sys
-import tempfile
+
+import pytest
 
 from tests import TOP
-from tests.program import Report
+
+pytestmark = [pytest.mark.slow, pytest.mark.needs("rt")]
 
 CRATE = "outlived_names"
 SECONDS = 600
@@ -41,11 +39,11 @@ pub fn first_length(alloc: Global, file: Vec<u8>) -> usize {{
 fn compiles() {{}}
 """
 
-# Each order of the same three lines, and what the compiler says about it: nothing if the name is used first.
+# Each order of the same three lines, and what the compiler says is borrowed: nothing if the name is used first.
 ORDERS = [
-    ("the name is used first", ["let length = name.len();", "drop(table);", "drop(file);"], None),
-    ("the name outlives the file", ["drop(file);", "let length = name.len();", "drop(table);"], "file"),
-    ("the name outlives the table", ["drop(table);", "let length = name.len();", "drop(file);"], "table"),
+    (["let length = name.len();", "drop(table);", "drop(file);"], None),
+    (["drop(file);", "let length = name.len();", "drop(table);"], "file"),
+    (["drop(table);", "let length = name.len();", "drop(file);"], "table"),
 ]
 
 
@@ -79,31 +77,18 @@ def make_tree(folder):
     return crate
 
 
-def compiled(crate, lines):
-    """What `rt try` says of the function with these lines."""
+@pytest.fixture(scope="module")
+def crate(tmp_path_factory):
+    return make_tree(tmp_path_factory.mktemp("outlived"))
+
+
+@pytest.mark.parametrize("lines, moved", ORDERS, ids=["used first", "outlives the file", "outlives the table"])
+def test_order(crate, lines, moved):
+    """The only error is that a value is moved while it is borrowed, or the test runs without one."""
     (crate / "src" / "lib.rt").write_text(SOURCE.format(lines="\n            ".join(lines)))
-    words = ["rt", "try", "--test"]
-    done = subprocess.run(words, cwd=crate, stdout=subprocess.PIPE, stderr=subprocess.STDOUT, text=True, timeout=SECONDS)
-    return done.stdout
-
-
-def is_right(said, moved):
-    """Whether the only error is that this value is moved while it is borrowed, or the test ran without one."""
+    said = subprocess.run(["rt", "try", "--test"], cwd=crate, stdout=subprocess.PIPE, stderr=subprocess.STDOUT, text=True).stdout
     errors = re.findall(r"error.*", said)
     if moved is None:
-        return not errors and "1 passed" in said
-    return len(errors) == 1 and f"cannot move out of `{moved}` because it is borrowed" in errors[0]
-
-
-def main():
-    report = Report()
-    with tempfile.TemporaryDirectory() as folder, report.group("names that are kept while their file is dropped"):
-        crate = make_tree(pathlib.Path(folder))
-        for name, lines, moved in ORDERS:
-            said = compiled(crate, lines)
-            report.expect_that(is_right(said, moved), name, f"the compiler said {said[-1000:]!r}")
-    return report.end("outlived names")
-
-
-if __name__ == "__main__":
-    sys.exit(main())
+        assert not errors and "1 passed" in said
+    else:
+        assert len(errors) == 1 and f"cannot move out of `{moved}` because it is borrowed" in errors[0]

@@ -1,0 +1,160 @@
+"""Collects the blocks of the pages as tests: each is run, or says why not.
+
+A comment on the line before a block says what it is:
+
+    <!-- needs: clang llvm-objcopy -->   it is skipped without these tools
+    <!-- file: key.c -->                 a file of this name
+    <!-- stand-in: rt -->                `rt run -- WORDS` and `rt try -- WORDS` run the built command
+    <!-- not run: WHY -->                only read: a shell block has to be one, and to name files that exist
+
+A block `sh` prints what the block `text` after it says, or nothing. A block `console` has lines after `$ `, each for a shell of its own,
+with what it prints. A block `python` is a doctest. Each runs in the folder that the one before has left, which begins as the top of a
+clone in which the command is built. All blocks of a page run in one process, and --dist loadgroup keeps that so.
+"""
+
+import os
+import pathlib
+import re
+import signal
+import subprocess
+import sys
+
+import pytest
+from markdown_it import MarkdownIt
+
+from tests import TOP
+from tests.needs import GOCODE, CRATES, built, need
+
+PAGES = ["README.md", "docs/RECIPES.md", "docs/SECTIONS.md", "docs/INTEGRATIONS.md"]
+COMMENT = re.compile(r"<!-- (needs|file|stand-in|not run): (.*?) -->")
+OBJECT_TOOL = "bpfcanon-object"
+CARGO = f'[net]\noffline = true\n[source.crates-io]\nreplace-with = "debian"\n[source.debian]\ndirectory = "{CRATES}"\n'
+RT = '#!/bin/sh\nshift\n[ "$1" != -- ] || shift\nexec bpfcanon "$@"\n'
+NO_LINKS = {".git", "crates", "out"}
+SECONDS = 120
+
+
+def pytest_collect_file(file_path, parent):
+    if file_path.suffix == ".md" and str(file_path.relative_to(TOP)) in PAGES:
+        return Page.from_parent(parent, path=file_path)
+
+
+def write(path, text, mode=0o644):
+    path.parent.mkdir(parents=True, exist_ok=True)
+    path.write_text(text)
+    path.chmod(mode)
+
+
+class Page(pytest.File):
+    folder = None
+
+    def collect(self):
+        tokens = MarkdownIt().parse(self.path.read_text())
+        used = set()
+        for at, token in enumerate(tokens):
+            if token.type != "fence" or at in used:
+                continue
+            said = dict(COMMENT.findall(tokens[at - 1].content if at and tokens[at - 1].type == "html_block" else ""))
+            follows = tokens[at + 1 : at + 2]
+            prints = ""
+            if token.info == "sh" and follows and (follows[0].type, follows[0].info) == ("fence", "text"):
+                prints = follows[0].content
+                used.add(at + 1)
+            yield Block.from_parent(self, name=f"line {token.map[0] + 1}", token=token, said=said, prints=prints)
+
+    def begin(self):
+        """The top of a clone, by links to this tree, and the settings of its commands: nothing is from the network or a user's settings."""
+        tmp = self.config._tmp_path_factory.mktemp(self.path.stem)
+        self.tools, self.folder, self.at = tmp / "tools", tmp / "clone", tmp / "at"
+        self.folder.mkdir()
+        for path in TOP.iterdir():
+            if path.name not in NO_LINKS:
+                (self.folder / path.name).symlink_to(path)
+        program, prefix = built(self.config.getoption("program"), "build"), self.config.getoption("prefix").resolve()
+        for place in self.folder / "crates" / "bpfcanon" / "out" / "bpfcanon", self.tools / "bin" / "bpfcanon":
+            place.parent.mkdir(parents=True)
+            place.symlink_to(program)
+        write(self.tools / "gitconfig", "[user]\nname = reader\nemail = reader@example.org\n")
+        write(self.tools / "cargo" / "config.toml", CARGO)
+        (self.tools / "go" / "src").mkdir(parents=True)
+        (self.tools / "go" / "src" / "bpfcanon").symlink_to(TOP / "bindings" / "go")
+        self.settings = os.environ | {"PATH": f"{self.tools / 'bin'}:{os.environ['PATH']}", "PYTHONDONTWRITEBYTECODE": "1"}
+        self.settings |= {"HOME": str(tmp), "RUSTUP_HOME": os.environ.get("RUSTUP_HOME", f"{pathlib.Path.home()}/.rustup")}
+        self.settings |= {"GIT_CONFIG_GLOBAL": f"{self.tools}/gitconfig", "PRE_COMMIT_HOME": f"{tmp}/pre-commit", "TEST_TMPDIR": f"{tmp}/bazel"}
+        self.settings |= {"GO111MODULE": "off", "GOENV": "off", "GOFLAGS": "", "CGO_ENABLED": "1", "GOPATH": f"{self.tools}/go:{GOCODE}"}
+        self.settings |= {"GOCACHE": f"{self.tools}/go-cache", "CARGO_HOME": f"{self.tools}/cargo", "RUSTFLAGS": ""}
+        if prefix.exists():
+            own = {"BPFCANON_LIBRARY": f"{prefix}/lib/libbpfcanon.so.0", "PYTHONPATH": f"{TOP}/bindings/python"}
+            words = " ".join([*(f"{name}='{value}'" for name, value in own.items()), sys.executable, "-B -m bpfcanon.objects"])
+            write(self.tools / "bin" / OBJECT_TOOL, f'#!/bin/sh\nexec env {words} "$@"\n', 0o755)
+            self.settings |= own | {"PKG_CONFIG_PATH": f"{prefix}/lib/pkgconfig", "LD_LIBRARY_PATH": f"{prefix}/lib"}
+
+
+class Block(pytest.Item):
+    def __init__(self, *, token, said, prints, **how):
+        super().__init__(**how)
+        self.text, self.language, self.said, self.prints = token.content, token.info, said, prints
+        self.line = token.map[0]
+        self.add_marker("pages")
+        self.add_marker("command")
+        self.add_marker(pytest.mark.xdist_group(self.parent.path.name))
+
+    def reportinfo(self):
+        return self.path, self.line, f"{self.path.name}, line {self.line + 1}: {self.text.splitlines()[0]}"
+
+    def repr_failure(self, excinfo):
+        return str(excinfo.value)
+
+    def compare(self, printed, right):
+        if printed != right:
+            pytest.fail(f"{self.text}--- the page says\n{right}--- and it printed\n{printed}", pytrace=False)
+
+    def runtest(self):
+        if self.parent.folder is None:
+            self.parent.begin()
+        language = "file" if "file" in self.said else "not_run" if "not run" in self.said else self.language
+        way = getattr(self, f"run_{language}", None)
+        if way is None:
+            pytest.fail(f"no test runs a block of the language {self.language!r}", pytrace=False)
+        need(*self.said.get("needs", "").split(), path=self.parent.settings["PATH"])
+        way()
+
+    def shell(self, words, **how):
+        settings = self.parent.settings
+        if "stand-in" in self.said:
+            write(self.parent.tools / "stand-in" / self.said["stand-in"], RT, 0o755)
+            settings = settings | {"PATH": f"{self.parent.tools}/stand-in:{settings['PATH']}"}
+        how |= {"cwd": self.parent.folder, "env": settings, "stdout": subprocess.PIPE, "text": True, "start_new_session": True}
+        with subprocess.Popen(words, **how) as process:
+            try:
+                printed, _ = process.communicate(timeout=SECONDS)
+            except subprocess.TimeoutExpired:
+                os.killpg(process.pid, signal.SIGKILL)  # what it has started too
+                pytest.fail(f"{self.text}--- no end within {SECONDS} seconds", pytrace=False)
+        return subprocess.CompletedProcess(words, process.returncode, printed)
+
+    def run_file(self):
+        write(self.parent.folder / self.said["file"], self.text)
+        assert f"`{self.said['file']}`" in self.path.read_text(), "the page doesn't name the file"
+
+    def run_not_run(self):
+        if self.language == "sh":
+            self.compare(self.shell(["bash", "-n", "-c", self.text], stderr=subprocess.STDOUT).stdout, "")
+            for name in re.findall(r"(?:^|[ ;(])(?:\./)?((?:[a-z_]+/)*[a-z_]+/?[a-z_]*)(?=[ \n;]|$)", self.text):
+                assert "/" not in name or name.startswith("path/to") or (TOP / name).exists(), f"there is no {name}"
+
+    def run_sh(self):
+        done = self.shell(["bash", "-euo", "pipefail", "-c", f"{self.text}\npwd > '{self.parent.at}'"])
+        self.compare(done.stdout if done.returncode == 0 else f"{done.stdout}status {done.returncode}\n", self.prints)
+        self.parent.folder = pathlib.Path(self.parent.at.read_text().rstrip("\n"))
+
+    def run_console(self):
+        for part in re.split(r"^\$ ", self.text, flags=re.MULTILINE)[1:]:
+            line, _, right = part.partition("\n")
+            self.compare(self.shell(["sh", "-c", line], stderr=subprocess.STDOUT).stdout, right)
+
+    def run_python(self):
+        assert ">>>" in self.text, "it has no example"
+        write(self.parent.tools / "block.txt", self.text)
+        done = self.shell([sys.executable, "-m", "doctest", self.parent.tools / "block.txt"], stderr=subprocess.STDOUT)
+        self.compare(done.stdout, "")

@@ -1,0 +1,174 @@
+"""The largest inputs of each command, and one byte more.
+
+Instructions and listings have 67,108,864 bytes at most, BTF 50,335,744, and two files twice that. All of these are small enough to be run
+as they are. The rows make theirs when they are run.
+"""
+
+import functools
+import struct
+
+import pytest
+
+from tests.command import Ran, refused
+from tests.samples import CALL_BY_REGISTER, EXIT, WIDE
+
+INSTRUCTIONS = 67_108_864 // len(EXIT)
+INT_RECORDS = 33_554_432 // 16
+STRINGS = 16_777_216
+# The length of a line of 8 MB.
+LONG = 8 << 20
+HEADER = 4_096
+BTF_LIMIT = HEADER + 16 * INT_RECORDS + STRINGS
+INSN_LIMIT = INSTRUCTIONS * len(EXIT)
+FRONT = INSN_LIMIT - len(EXIT)
+SAME = b"same\n"
+EMPTY = bytes
+
+
+def exits(count=INSTRUCTIONS):
+    return EXIT * count
+
+
+def btf_header(header_length, types, strings):
+    return struct.pack("<HBBIIIII", 0xEB9F, 1, 0, header_length, 0, types, types, strings)
+
+
+def int_records(name):
+    """As many records of a signed int as a file may have, all with the name at this offset."""
+    return struct.pack("<IIII", name, 0x0100_0000, 4, 0x0100_0020) * INT_RECORDS
+
+
+@functools.lru_cache(maxsize=1)
+def largest_btf():
+    """A file of the limit in each of its parts, whose types all have the last two letters of the strings for a name."""
+    strings = b"\0" + b"a" * (STRINGS - 2) + b"\0"
+    header = btf_header(HEADER, 16 * INT_RECORDS, STRINGS)
+    return header + bytes(HEADER - len(header)) + int_records(STRINGS - 3) + strings
+
+
+def largest_btf_canonical():
+    strings = b"\0aa\0"
+    return btf_header(24, 16 * INT_RECORDS, len(strings)) + int_records(1) + strings
+
+
+def largest_btf_text():
+    return "".join(f'[{i + 1}] int "aa" size=4 encoding=signed offset=0 bits=32\n' for i in range(INT_RECORDS)).encode()
+
+
+# A command with an input of the limit, what it prints, and what it prints of one byte more before it is too long.
+LIMITS = {
+    "insn-canon": (exits, exits, exits),
+    "insn-show": (exits, lambda: b"exit\n" * INSTRUCTIONS, EMPTY),
+    "insn-read": (lambda: b"exit   \n" * INSTRUCTIONS, exits, EMPTY),
+    "insn-groups": (exits, lambda: b"base32\n", EMPTY),
+    f"insn-same --split {INSN_LIMIT}": (lambda: exits(2 * INSTRUCTIONS), lambda: SAME, EMPTY),
+    "btf-check": (largest_btf, lambda: f"ok {INT_RECORDS} types\n".encode(), EMPTY),
+    "btf-canon": (largest_btf, largest_btf_canonical, EMPTY),
+    "btf-show": (largest_btf, largest_btf_text, EMPTY),
+    f"btf-same --split {BTF_LIMIT}": (lambda: largest_btf() * 2, lambda: SAME, EMPTY),
+    "insn-read, a comment": (lambda: b"exit;" + b"\xff" * (INSN_LIMIT - 5), lambda: EXIT, EMPTY),
+    "insn-read, many lines": (lambda: b"\n" * (INSN_LIMIT - 5) + b"exit\n", lambda: EXIT, EMPTY),
+    "insn-read, digits": (lambda: b"mov r1, " + b"0" * (INSN_LIMIT - 9) + b"7", lambda: bytes.fromhex("b7 01 00 00 07 00 00 00"), EMPTY),
+}
+
+
+@pytest.mark.parametrize("row", LIMITS)
+def test_limit(run, row):
+    """The input of the limit is answered, and one byte more is too long."""
+    (given, output, output_of_more), line = LIMITS[row], row.partition(",")[0]
+    given = given()
+    assert len(given) == (INSN_LIMIT if line.startswith("insn") else BTF_LIMIT) * (2 if "split" in line else 1)
+    assert run(line, given) == Ran(0, output())
+    assert run(line, given + b"\n") == refused("too long", output_of_more())
+
+
+@pytest.mark.parametrize("count, letters", [(1, STRINGS - 2), (2, STRINGS - 2), (5791, 5791), (5792, 5792)])
+def test_names_that_share_their_bytes(run, count, letters):
+    """Typedefs of void, named from each of the first letters of one string on, which are their own canonical bytes."""
+    types = b"".join(struct.pack("<III", name, 0x0800_0000, 0) for name in range(1, count + 1))
+    file = btf_header(24, len(types), letters + 2) + types + b"\0" + b"a" * letters + b"\0"
+    assert run("btf-canon", file) == Ran(0, file)
+    assert run("btf-check", file) == Ran(0, f"ok {count} types\n".encode())
+
+
+def test_name_used_often(run):
+    """Half a million values have the same name of a million bytes, next to a string that isn't UTF-8."""
+    enum = struct.pack("<III", 0, 0x0600_FFFF, 4) + struct.pack("<II", 1, 0) * 0xFFFF
+    strings = b"\0" + b"a" * 1_000_000 + b"\0"
+    file = btf_header(24, 8 * len(enum), len(strings) + 2) + 8 * enum + strings + b"\xff\0"
+    assert run("btf-check", file) == Ran(0, b"ok 8 types\n")
+    assert run("btf-canon", file) == Ran(0, btf_header(24, 8 * len(enum), len(strings)) + 8 * enum + strings)
+
+
+def test_numbered_lines(run):
+    """A million lines, each with another number."""
+    file = b"".join(struct.pack("<BBhi", 0xB7, 9, 0, number) for number in range(1_000_000))
+    text = b"".join(b"mov r9, %d\n" % number for number in range(1_000_000))
+    assert run("insn-show", file) == Ran(0, text)
+    assert run("insn-read", text) == Ran(0, file)
+
+
+# ---- what else is wrong at the limit
+
+
+def front():
+    return exits(INSTRUCTIONS - 1)
+
+
+# A command, an input, the message, and what precedes it. insn-canon reports a fault within the limit as it reads; the others first report
+# that the input is too long.
+FAULTS = {
+    "a fault in the last slot": ("insn-canon", lambda: front() + CALL_BY_REGISTER, f"fault {FRONT} Opcode", front),
+    "a fault before too much": ("insn-canon", lambda: front() + CALL_BY_REGISTER + EXIT, f"fault {FRONT} Opcode", front),
+    "a fault after the limit": ("insn-canon", lambda: exits() + CALL_BY_REGISTER, "too long", exits),
+    "a cut slot": ("insn-canon", lambda: front() + EXIT[:7], f"fault {FRONT} Truncated", front),
+    "a cut wide load": ("insn-canon", lambda: front() + WIDE[:8], f"fault {INSN_LIMIT} Truncated", front),
+    "a wide load over the limit": ("insn-canon", lambda: front() + WIDE, "too long", front),
+    "a wide load cut after the limit": ("insn-canon", lambda: front() + WIDE[:9], "too long", front),
+    "a long line of NUL": ("insn-read", lambda: b"exit " + b"\0" * LONG, "fault line 1 Char", EMPTY),
+    "a long line of commas": ("insn-read", lambda: b"exit " + b"," * LONG, "fault line 1 Shape", EMPTY),
+    "a long line of letters": ("insn-read", lambda: b"mov r1, 9" + b"a" * LONG, "fault line 1 Shape", EMPTY),
+    "many nines": ("insn-read", lambda: b"mov r1, " + b"9" * LONG, "fault line 1 Range", EMPTY),
+    "a fault in the last line": ("insn-read", lambda: b"\n" * (INSN_LIMIT - 5) + b"leave", f"fault line {INSN_LIMIT - 4} Word", EMPTY),
+    "a fault and too much": ("insn-read", lambda: b"leave\n" + b"\n" * (INSN_LIMIT - 5), "too long", EMPTY),
+    "after a short input": (f"insn-same --split {2 * INSN_LIMIT}", lambda: EXIT, "split beyond input", EMPTY),
+    "after the end": (f"insn-same --split {2 * INSN_LIMIT}", lambda: exits() + exits()[1:], "split beyond input", EMPTY),
+    "after short BTF": (f"btf-same --split {2 * INSN_LIMIT}", lambda: EXIT, "split beyond input", EMPTY),
+    "too much comes first": (f"insn-same --split {2 * INSN_LIMIT}", lambda: CALL_BY_REGISTER + exits() * 2, "too long", EMPTY),
+    "no second BTF": (f"btf-same --split {BTF_LIMIT}", largest_btf, "second: fault 0 ShortHeader", EMPTY),
+    "a first byte more": (
+        f"btf-same --split {BTF_LIMIT + 1}",
+        lambda: largest_btf() + b"\0" + largest_btf()[1:],
+        f"first: fault {BTF_LIMIT} FileLength",
+        EMPTY,
+    ),
+    "a first byte less": (
+        f"btf-same --split {BTF_LIMIT - 1}",
+        lambda: largest_btf() + largest_btf()[1:],
+        f"first: fault {BTF_LIMIT - 1} FileLength",
+        EMPTY,
+    ),
+    "no first BTF": ("btf-same --split 0", lambda: bytes(2 * BTF_LIMIT), "first: fault 0 ShortHeader", EMPTY),
+    "no first BTF, and too much": ("btf-same --split 0", lambda: bytes(2 * BTF_LIMIT + 1), "too long", EMPTY),
+}
+FAULTS |= {f"{it}, faulty": (it, lambda: front() + CALL_BY_REGISTER, f"fault {FRONT} Opcode", EMPTY) for it in ["insn-show", "insn-groups"]}
+FAULTS |= {
+    f"{it}, faulty and too long": (it, lambda: CALL_BY_REGISTER + front() + b"\x95", "too long", EMPTY) for it in ["insn-show", "insn-groups"]
+}
+for it in ["btf-canon", "btf-show", "btf-check"]:
+    FAULTS |= {
+        f"{it} of zeros": (it, lambda: bytes(BTF_LIMIT), "fault 0 Magic", EMPTY),
+        f"{it} of more zeros": (it, lambda: bytes(BTF_LIMIT + 1), "too long", EMPTY),
+        f"{it}, cut": (it, lambda: largest_btf()[:-1], f"fault {BTF_LIMIT - 1} FileLength", EMPTY),
+    }
+
+
+@pytest.mark.parametrize("row", FAULTS)
+def test_fault_at_the_limit(run, row):
+    line, given, message, output = FAULTS[row]
+    assert run(line, given()) == refused(message, output())
+
+
+@pytest.mark.parametrize("split", [0, 2 * INSN_LIMIT])
+def test_split_at_the_limit(run, split):
+    assert run(f"insn-same --split {split}", exits(2 * INSTRUCTIONS)) == Ran(1, b"different\n")

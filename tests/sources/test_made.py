@@ -1,0 +1,24 @@
+"""What the tools/ make of other files is as they would make it."""
+
+import subprocess
+
+import pytest
+
+from tests import TOP
+
+TABLE = TOP / "crates" / "bpfcanon" / "src" / "tests" / "vectors.rt"
+
+
+@pytest.mark.parametrize("tool", ["from_causes", "from_mnemonics", "from_specs"])
+def test_made(tool):
+    done = subprocess.run([TOP / "tools" / tool, "--check"], capture_output=True, text=True)
+    assert (done.returncode, done.stdout, done.stderr) == (0, "", "")
+
+
+def test_rows():
+    """The tests of the crate bpfcanon have the rows `run` of the vectors."""
+    assert subprocess.check_output([TOP / "tools" / "to_rows"]) == TABLE.read_bytes()
+
+
+def test_manual():
+    assert subprocess.check_output([TOP / "tools" / "from_formats"]) == (TOP / "man" / "bpfcanon.5").read_bytes()
