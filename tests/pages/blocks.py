@@ -29,7 +29,6 @@ BLOCK = re.compile(r"^```(\w+)\n(.*?)^```$", re.MULTILINE | re.DOTALL)
 INTEGRATED = ["c", "cmake", "go", "python", "rust", "sh", "text", "yaml"]
 # The test that runs the blocks of a page in a language, and how many it finds if it wouldn't notice another one.
 TESTS = {
-    ("docs/ADDING.md", "diff"): ("tests/pages/adding.py", None),
     ("README.md", "console"): ("tests/pages/readme.py", 1),
     ("README.md", "python"): ("tests/pages/readme.py", 1),
     ("README.md", "text"): ("tests/pages/plugin.py", 1),
@@ -75,7 +74,6 @@ CALLS = {
         ["rt try --test", "rt check --only form::allows_src", "rt check", "rt fmt", "rt tidy"],
         ["rt check --test --jobs 1"],
     ],
-    "docs/COMPARED.md": [["tools/compared --print"]],
     "bindings/go/README.md": [
         [f"tar xf bpfcanon-go-{VERSION}.tar.xz", "go mod init example.org/program", f"{REQUIRE}./bpfcanon-go-{VERSION}"],
         [BUILD],
@@ -86,7 +84,7 @@ CALLS = {
 }
 # What a block of a page with so many calls prints.
 PRINTS = {("README.md", 2): "right\nright\n"}
-SCRIPTS = ["verify", "release", "capi/archive", "capi/build", "packaging/program.py", "bench/run", "tools/compared"]
+SCRIPTS = ["verify", "release", "capi/archive", "capi/build", "packaging/program.py", "bench/run"]
 TOOLS = ["rt", "go", "tar", "pip"]
 STAND_IN = """#!/bin/sh
 echo "NAME${*:+ }$*" >>"$CALLS"

@@ -18,7 +18,7 @@ FILE = re.compile(r"`([\w./*-]*\w\.(?:rt|antt|py|c|h|md|tsv|go|rs|map|toml|txt))
 NAME = re.compile(r"`([A-Za-z_][\w:]*)`")
 # The pages on the sources, what they may name, and what no source contains: a variable of the environment, prefixes, a new instruction,
 # and calls of libbpf.
-ON_SOURCES = ["ADDING", "CHANGING", "CONTRACTS", "DECISIONS", "LIBRARY", "PROMISES", "STABILITY", "TRUST"]
+ON_SOURCES = ["CHANGING", "CONTRACTS", "DECISIONS", "LIBRARY", "PROMISES", "STABILITY", "TRUST"]
 SOURCES = ["crates/**/*.rt", "crates/**/*.antt", "tests/**/*", "tools/*", "capi/*"]
 SOURCES += ["bindings/**/*.go", "bindings/**/*.py", "bindings/**/*.rs"]
 NO_NAMES = {"RT_JOBS", "proved_", "bpfcanon_proved_", "MayGoto", "bpf_object__open_file", "btf__parse"}

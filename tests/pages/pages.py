@@ -223,8 +223,8 @@ def check_library_page(report):
 
 
 def check_pages(report):
-    """The pages are without warnings and name one another. causes.py compares bpfcanon.5 with the pages it is made from."""
-    pages = [page_of(section) for section in (1, 3, 5)]
+    """The pages are without warnings and name one another. """
+    pages = [page_of(section) for section in (1, 3)]
     with report.group("the manual pages"):
         for page in pages:
             version = re.search(r'^\.TH BPFCANON \d "" "bpfcanon (.*?)"', page.read_text(), re.MULTILINE)
@@ -239,25 +239,9 @@ def check_pages(report):
             report.expect_that(all(other in last for other in others), page.name, f"SEE ALSO lacks one of {others}")
 
 
-def headings(name):
-    text = re.sub(r"^```.*?^```$", "", (TOP / "docs" / name).read_text(), flags=re.MULTILINE | re.DOTALL)
-    return re.findall(r"^##+ (.*)$", text, re.MULTILINE)
-
-
-def check_formats_page(report):
-    """bpfcanon.5 has all parts of FORMATS and FAULTS, and those of SCOPE on inputs in place of "Not covered"."""
-    with report.group("the parts of bpfcanon.5"):
-        *faults, last = headings("FAULTS.md")
-        report.expect_that(last == "Not covered", "docs/FAULTS.md", f"its last part is {last!r}")
-        inputs = ["Unsupported inputs", "What isn't checked", "Sizes"]
-        right = ["Name", "Description", *headings("FORMATS.md"), "Faults", *faults, *inputs, "See also"]
-        found = re.findall(r"^\.S[HS] (.*)$", page_of(5).read_text(), re.MULTILINE)
-        report.expect_that([it.lower() for it in found] == [it.lower() for it in right], "the parts", f"they are {found}")
-
-
 def main():
     report = Report()
-    checks = [check_readme, check_manual, check_messages, check_limits, check_library, check_library_page, check_pages, check_formats_page]
+    checks = [check_readme, check_manual, check_messages, check_limits, check_library, check_library_page, check_pages]
     for check in checks:
         check(report)
     return report.end("pages")

@@ -1,4 +1,4 @@
-"""Compares docs/TRUST.md with the sources: its contracts, the words that it explains, the files to read, and the figures.
+"""Compares docs/TRUST.md with the sources: its contracts, the words that it explains and the files to read.
 
     python3 -m tests.pages.trust [--program PROGRAM] [--record RECORD]
 
@@ -19,8 +19,7 @@ from tests.pages.readme import typed_lines
 from tests.program import SECONDS, Report
 from tests.sources.tables import cells, loaded
 
-FIGURES = loaded("figures")
-FOUND = FIGURES.Definitions()
+FROM_SPECS = loaded("from_specs")
 PAGE = TOP / "docs" / "TRUST.md"
 TEXT = PAGE.read_text()
 # What the page shows of the sources, in its sequence: functions with their contracts, and definitions.
@@ -36,17 +35,20 @@ BOUND = re.compile(r"λ (\w+)\.|\(((?:\w+ )+):|pub (\w+) :|(\w+): [&A]|ensures (
 STD_IMPORT = re.compile(r"^(?:pub )?use Rattle\.std\.[^{]*\{([^}]*)\}", re.MULTILINE)
 STD_COUNT = re.compile(r"import (\d+) words of Rattle's standard library")
 PLAIN = set("ℕ zero suc + * < min Bool true false not && || if then else Ordering Option Some None Result Ok Err List map filter reverse".split())
-# A table of one figure, and whether it is right.
-FIGURE = FIGURES.Figure(20_000, 100, "lines", "`src`")
-TABLES = [
-    (FIGURES.table([FIGURE]), True),
-    (FIGURES.table([FIGURE]).replace("20,000", "20,400"), True),
-    (FIGURES.table([FIGURE]).replace("20,000", "20,401"), False),
-    (FIGURES.table([FIGURE]).replace("20,000", "19,599"), False),
-    (FIGURES.table([FIGURE]).replace("lines", "files"), False),
-    (FIGURES.table([FIGURE, FIGURE]), False),
-    (FIGURES.table([]), False),
-]
+# A variable and a field of the definitions that have the name of another one.
+NO_CITATIONS = {("btf_types", "is_set"), ("btf_types", "items_of")}
+DEFINED = FROM_SPECS.definitions()
+
+
+def of_three():
+    """The definitions that the contracts of the page rest on, each by its crate and its name."""
+    known = {key: it for key, it in DEFINED.items() if key not in NO_CITATIONS}
+    cited = {key for key, functions in FROM_SPECS.citations().items() if functions & set(FUNCTIONS)}
+    return {*cited, *FROM_SPECS.below(known, cited)}
+
+
+def file_of(key):
+    return TOP / "crates" / key[0] / "specs" / f"{DEFINED[key].file}.antt"
 
 
 def plain(text):
@@ -65,7 +67,7 @@ def definitions():
     """The text of each definition of a file with laws, without the comment above it."""
     for part in (TOP / "crates/bpf_canon/specs/btf/BtfLaws.antt").read_text().split("\n\n"):
         text = re.sub(r"^--.*\n", "", part.strip(), flags=re.MULTILINE)
-        name = FIGURES.FROM_SPECS.DEFINITION.match(text)
+        name = FROM_SPECS.DEFINITION.match(text)
         if name:
             yield name[1], plain(text)
 
@@ -99,7 +101,7 @@ def check_words(report):
     bound = {word for text in shown for names in BOUND.findall(text) for name in names for word in name.split()}
     clauses = [text.partition("ensures")[2] if text.startswith("pub fn") else text for text in shown]
     explained = {word for row in rows("Word") for code in CODE.findall(row[0]) for word in WORD.findall(code)}
-    known = explained | bound | {name for _, name in FOUND.of_three()}
+    known = explained | bound | {name for _, name in of_three()}
     with report.group("the words of these contracts"):
         report.expect_that(len(explained) > 20, "the table of words", f"it explains {sorted(explained)}")
         for word in sorted({word for text in clauses for word in WORD.findall(text)}):
@@ -108,7 +110,7 @@ def check_words(report):
 
 def check_files(report):
     """The table of what to read has each file with a definition that the three contracts rest on, and no other."""
-    right = {FOUND.file_of(key) for key in FOUND.of_three()}
+    right = {file_of(key) for key in of_three()}
     shown = [(PAGE.parent / link).resolve() for row in rows("They say") for link in LINK.findall(row[1])]
     with report.group(f"the {len(right)} files that the three contracts rest on"):
         for path in sorted(right | set(shown)):
@@ -135,15 +137,6 @@ def check_std(report):
         for row in shown:
             names = {name for name in re.findall(r"\w{4,}", row[0])}
             report.expect_that(names <= words, row[0], f"{sorted(names - words)} isn't imported")
-
-
-def check_figures(report):
-    with report.group("the figures of docs/TRUST.md"):
-        shown = FIGURES.TABLE.search(TEXT)
-        wrong = FIGURES.wrong_rows(shown[0], FIGURES.figures(FOUND)) if shown else ["there is no table"]
-        report.expect_that(not wrong, "tools/figures writes them", "; ".join(wrong))
-        for text, is_right in TABLES:
-            report.expect_that((not FIGURES.wrong_rows(text, [FIGURE])) == is_right, repr(text), "it is taken for the other")
 
 
 def verdict():
@@ -197,7 +190,7 @@ def main():
     parser.add_argument("--program", type=pathlib.Path, help="the built command")
     parser.add_argument("--record", type=pathlib.Path, help="out/PROVED.txt")
     given, report = parser.parse_args(), Report()
-    for check in check_contracts, check_words, check_files, check_std, check_figures, check_verdict:
+    for check in check_contracts, check_words, check_files, check_std, check_verdict:
         check(report)
     if given.program:
         check_console(report, given.program.resolve())

@@ -22,7 +22,6 @@ EXIT = b"\x95" + bytes(7)
 FILES = {
     "bin/bpfcanon": BUILT,
     "share/man/man1/bpfcanon.1": TOP / "man" / "bpfcanon.1",
-    "share/man/man5/bpfcanon.5": TOP / "man" / "bpfcanon.5",
     "share/bash-completion/completions/bpfcanon": TOP / "completions" / "bash" / "bpfcanon",
     "share/zsh/site-functions/_bpfcanon": TOP / "completions" / "zsh" / "_bpfcanon",
     "share/doc/bpfcanon/LICENSE": TOP / "packaging" / "NO-LICENSE",

@@ -18,7 +18,3 @@ def test_made(tool):
 def test_rows():
     """The tests of the crate bpfcanon have the rows `run` of the vectors."""
     assert subprocess.check_output([TOP / "tools" / "to_rows"]) == TABLE.read_bytes()
-
-
-def test_manual():
-    assert subprocess.check_output([TOP / "tools" / "from_formats"]) == (TOP / "man" / "bpfcanon.5").read_bytes()
