@@ -2,7 +2,10 @@
 
 import ast
 import inspect
+import os
 import pathlib
+import subprocess
+import sys
 import textwrap
 
 import pytest
@@ -46,17 +49,49 @@ def pytest_runtest_setup(item):
 
 @pytest.fixture(scope="session")
 def program(request):
-    """The path of the built command."""
-    return built(request.config.getoption("program"), "build")
+    """The built command."""
+    return Program(built(request.config.getoption("program"), "all"))
 
 
 @pytest.fixture
 def run(program):
     """Runs the command: a line of arguments, and its input."""
-    return Program(program).run
+    return program.run
+
+
+def preloaded(name, folder):
+    """A shared object of tests/process, which is loaded before the C library."""
+    need("cc")
+    made = folder / f"{name}.so"
+    subprocess.run(
+        ["cc", "-O1", "-Wall", "-Wextra", "-shared", "-fPIC", "-o", made, TOP / "tests" / "process" / f"{name}.c", "-ldl"], check=True
+    )
+    return made
+
+
+@pytest.fixture(scope="session")
+def refusing(tmp_path_factory):
+    """Refuses allocations of the process that it is loaded into."""
+    return preloaded("refuse_allocation", tmp_path_factory.mktemp("refusing"))
+
+
+@pytest.fixture(scope="session")
+def failing(tmp_path_factory):
+    """Has the calls of the process that it is loaded into move few bytes, or fail."""
+    return preloaded("fail_calls", tmp_path_factory.mktemp("failing"))
 
 
 @pytest.fixture(scope="session")
 def prefix(request):
     """Where the C library is installed."""
-    return built(request.config.getoption("prefix"), "library")
+    return built(request.config.getoption("prefix"), "all")
+
+
+@pytest.fixture(scope="session")
+def object_tool(prefix, tmp_path_factory):
+    """The environment of processes that find bpfcanon-object and the Python package, over the C library."""
+    own = {"BPFCANON_LIBRARY": f"{prefix}/lib/libbpfcanon.so.0", "PYTHONPATH": f"{TOP}/bindings/python", "PYTHONDONTWRITEBYTECODE": "1"}
+    tool = tmp_path_factory.mktemp("tools") / "bpfcanon-object"
+    tool.write_text(f'#!/bin/sh\nexec {sys.executable} -m bpfcanon.objects "$@"\n')
+    tool.chmod(0o755)
+    return os.environ | own | {"PATH": f"{tool.parent}:{os.environ['PATH']}"}

@@ -3,7 +3,7 @@
 import struct
 from typing import NamedTuple
 
-from tests.program import Ran
+from tests.command import Ran
 from tests.reference import btf_page as page
 
 USAGE = Ran(

@@ -1,6 +1,6 @@
 """Installs the C library into a folder of its own, and compares the installed files with the header, the version script and the documents.
 
-    installed.py ARCHIVE
+    test_installed.py ARCHIVE
 
 ARCHIVE is what capi/archive made.
 """

@@ -4,6 +4,8 @@ A comment on the line before a block says what it is:
 
     <!-- needs: clang llvm-objcopy -->   it is skipped without these tools
     <!-- file: key.c -->                 a file of this name
+    <!-- go: key -->                     a program of this name, which is built of the block
+    <!-- given: types.btf testdata/flow_table.big.btf -->   a copy of a file of the tree
     <!-- stand-in: rt -->                `rt run -- WORDS` and `rt try -- WORDS` run the built command
     <!-- not run: WHY -->                only read: a shell block has to be one, and to name files that exist
 
@@ -15,6 +17,7 @@ clone in which the command is built. All blocks of a page run in one process, an
 import os
 import pathlib
 import re
+import shutil
 import signal
 import subprocess
 import sys
@@ -25,8 +28,28 @@ from markdown_it import MarkdownIt
 from tests import TOP
 from tests.needs import GOCODE, CRATES, built, need
 
-PAGES = ["README.md", "docs/RECIPES.md", "docs/SECTIONS.md", "docs/INTEGRATIONS.md"]
-COMMENT = re.compile(r"<!-- (needs|file|stand-in|not run): (.*?) -->")
+PAGES = [
+    str(it.relative_to(TOP))
+    for it in sorted([*TOP.glob("*.md"), *TOP.glob("docs/*.md"), *TOP.glob("b*/**/README.md"), *TOP.glob("testdata/*.md")])
+]
+# Blocks that another test runs or compares, or that are pictures.
+PYTHON_TESTS = "bindings/python/tests"
+ELSEWHERE = {
+    ("bindings/python/README.md", "python"): f"{PYTHON_TESTS}/test_package.py",
+    ("bindings/rust/README.md", "rust"): "bindings/rust/src/lib.rs",
+    ("bindings/rust/README.md", "toml"): "tests/released/languages.sh",
+    ("docs/LIBRARY.md", "c"): "tests/pages/test_object_examples.py",
+    ("docs/LIBRARY.md", "go"): "tests/pages/test_object_examples.py",
+    ("docs/LIBRARY.md", "python"): "tests/pages/test_object_examples.py",
+    ("docs/LIBRARY.md", "rust"): "tests/pages/test_object_examples.py",
+    ("docs/LIBRARY.md", "text"): "tests/pages/test_pages.py",
+    ("docs/OBJECTS.md", "text"): f"{PYTHON_TESTS}/test_objects_page.py",
+    **{("docs/TRUST.md", language): "tests/pages/test_trust.py" for language in ("antt", "rattle", "text", "console")},
+    ("testdata/README.md", "sh"): "tests/pages/test_examples.py",
+    ("docs/CHANGING.md", "text"): "docs/CHANGING.md",
+    ("docs/FORMATS.md", "text"): "docs/FORMATS.md",
+}
+COMMENT = re.compile(r"<!-- (needs|file|go|given|stand-in|not run): (.*?) -->")
 OBJECT_TOOL = "bpfcanon-object"
 CARGO = f'[net]\noffline = true\n[source.crates-io]\nreplace-with = "debian"\n[source.debian]\ndirectory = "{CRATES}"\n'
 RT = '#!/bin/sh\nshift\n[ "$1" != -- ] || shift\nexec bpfcanon "$@"\n'
@@ -60,7 +83,11 @@ class Page(pytest.File):
             if token.info == "sh" and follows and (follows[0].type, follows[0].info) == ("fence", "text"):
                 prints = follows[0].content
                 used.add(at + 1)
-            yield Block.from_parent(self, name=f"line {token.map[0] + 1}", token=token, said=said, prints=prints)
+            test = ELSEWHERE.get((str(self.path.relative_to(TOP)), token.info))
+            if said or test is None:
+                yield Block.from_parent(self, name=f"line {token.map[0] + 1}", token=token, said=said, prints=prints)
+            elif self.path.name not in (TOP / test).read_text() and test != str(self.path.relative_to(TOP)):
+                raise self.CollectError(f"{test} doesn't name {self.path.name}, of which it runs blocks")
 
     def begin(self):
         """The top of a clone, by links to this tree, and the settings of its commands: nothing is from the network or a user's settings."""
@@ -80,7 +107,11 @@ class Page(pytest.File):
         (self.tools / "go" / "src" / "bpfcanon").symlink_to(TOP / "bindings" / "go")
         self.settings = os.environ | {"PATH": f"{self.tools / 'bin'}:{os.environ['PATH']}", "PYTHONDONTWRITEBYTECODE": "1"}
         self.settings |= {"HOME": str(tmp), "RUSTUP_HOME": os.environ.get("RUSTUP_HOME", f"{pathlib.Path.home()}/.rustup")}
-        self.settings |= {"GIT_CONFIG_GLOBAL": f"{self.tools}/gitconfig", "PRE_COMMIT_HOME": f"{tmp}/pre-commit", "TEST_TMPDIR": f"{tmp}/bazel"}
+        self.settings |= {
+            "GIT_CONFIG_GLOBAL": f"{self.tools}/gitconfig",
+            "PRE_COMMIT_HOME": f"{tmp}/pre-commit",
+            "TEST_TMPDIR": f"{tmp}/bazel",
+        }
         self.settings |= {"GO111MODULE": "off", "GOENV": "off", "GOFLAGS": "", "CGO_ENABLED": "1", "GOPATH": f"{self.tools}/go:{GOCODE}"}
         self.settings |= {"GOCACHE": f"{self.tools}/go-cache", "CARGO_HOME": f"{self.tools}/cargo", "RUSTFLAGS": ""}
         if prefix.exists():
@@ -97,7 +128,7 @@ class Block(pytest.Item):
         self.line = token.map[0]
         self.add_marker("pages")
         self.add_marker("command")
-        self.add_marker(pytest.mark.xdist_group(self.parent.path.name))
+        self.add_marker(pytest.mark.xdist_group(str(self.parent.path.relative_to(TOP))))
 
     def reportinfo(self):
         return self.path, self.line, f"{self.path.name}, line {self.line + 1}: {self.text.splitlines()[0]}"
@@ -112,11 +143,14 @@ class Block(pytest.Item):
     def runtest(self):
         if self.parent.folder is None:
             self.parent.begin()
-        language = "file" if "file" in self.said else "not_run" if "not run" in self.said else self.language
+        language = next((it.replace(" ", "_") for it in ("file", "go", "not run") if it in self.said), self.language)
         way = getattr(self, f"run_{language}", None)
         if way is None:
             pytest.fail(f"no test runs a block of the language {self.language!r}", pytrace=False)
         need(*self.said.get("needs", "").split(), path=self.parent.settings["PATH"])
+        if "given" in self.said:
+            place, source = self.said["given"].split()
+            shutil.copy(TOP / source, self.parent.folder / place)
         way()
 
     def shell(self, words, **how):
@@ -136,6 +170,18 @@ class Block(pytest.Item):
     def run_file(self):
         write(self.parent.folder / self.said["file"], self.text)
         assert f"`{self.said['file']}`" in self.path.read_text(), "the page doesn't name the file"
+
+    def run_go(self):
+        name = self.said["go"]
+        write(self.parent.folder / name / "main.go", self.text)
+        done = self.shell(
+            [
+                "sh",
+                "-c",
+                f'test -z "$(gofmt -l {name})" && go vet ./{name} && go build -o program ./{name} && rm -r {name} && mv program {name}',
+            ]
+        )
+        self.compare(f"{done.stdout}{done.returncode}", "0")
 
     def run_not_run(self):
         if self.language == "sh":

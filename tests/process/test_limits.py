@@ -153,7 +153,8 @@ FAULTS = {
 }
 FAULTS |= {f"{it}, faulty": (it, lambda: front() + CALL_BY_REGISTER, f"fault {FRONT} Opcode", EMPTY) for it in ["insn-show", "insn-groups"]}
 FAULTS |= {
-    f"{it}, faulty and too long": (it, lambda: CALL_BY_REGISTER + front() + b"\x95", "too long", EMPTY) for it in ["insn-show", "insn-groups"]
+    f"{it}, faulty and too long": (it, lambda: CALL_BY_REGISTER + front() + b"\x95", "too long", EMPTY)
+    for it in ["insn-show", "insn-groups"]
 }
 for it in ["btf-canon", "btf-show", "btf-check"]:
     FAULTS |= {

@@ -116,7 +116,7 @@ def templates():
 
 
 def mnemonic_of(form):
-    """The mnemonic of a form. formats.py checks this rule against the page."""
+    """The mnemonic of a form. test_formats.py checks this rule against the page."""
     letter = SIZE_LETTERS.get(form.operation, "")
     suffix = "32" if form.bits == 32 else ""
     of_name = {

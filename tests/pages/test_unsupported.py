@@ -1,18 +1,17 @@
 """Compares the files that docs/SCOPE.md lists as unsupported, which docs/FAULTS.md refers to, with the answers to such files.
 
-    python3 -m tests.pages.unsupported PROGRAM
-
 For each cause of a row there is a file, made by hand as the row describes it. What it is refused with has to be what the row names, by
-the tables of the pages (tests/reference) and by the built command. formats.py tries the rows on instructions.
+the tables of the pages (tests/reference) and by the built command. test_formats.py tries the rows on instructions.
 """
 
 import re
 import struct
-import sys
 from typing import NamedTuple
 
+import pytest
+
 from tests import TOP
-from tests.program import Program, Ran, Report
+from tests.command import Ran
 from tests.reference import btf_reference, insn_reference
 from tests.reference.formats_page import table
 from tests.samples import btf
@@ -90,34 +89,27 @@ def causes(refusal):
     return {name for name in re.findall(r"`(\w+)`", refusal) if name in KNOWN}
 
 
-def check_row(report, program, what, refusal, cases):
+def refusals():
+    return dict(table("Unsupported inputs", "Input", "Refusal"))
+
+
+def test_rows():
+    assert [what for what, refusal in refusals().items() if not causes(refusal) <= OF_INSNS] == list(ROWS)
+
+
+@pytest.mark.parametrize("what", ROWS)
+def test_row(program, what):
     """Each cause that a row names, with the offset if it has one, is that of a case, and each case has such a cause."""
+    refusal, cases = refusals()[what], ROWS[what]
     named = causes(refusal)
     found = {case.fault[1] for case in cases if case.fault}
-    report.expect_that(named == found, what, f"the row names {sorted(named)}, and the inputs have {sorted(found)}")
+    assert named == found, f"{what}: the row names {sorted(named)}, and the inputs have {sorted(found)}"
     for cause, pos in re.findall(r"`(\w+)`,? at (?:the first byte from )?(\d+)", refusal):
         first = min(case.fault[0] for case in cases if case.fault and case.fault[1] == cause)
-        report.expect_that(first == int(pos), what, f"{cause} is at {first}, and the row says {pos}")
+        assert first == int(pos), f"{what}: {cause} is at {first}, and the row says {pos}"
     for case in cases:
         by_page = btf_reference.first_fault(case.input) if case.is_btf else insn_reference.decoded(case.input, "little")[1]
-        report.expect_that(by_page == case.fault, what, f"the tables say {by_page}, and right is {case.fault}")
+        assert by_page == case.fault, f"{what}: the tables say {by_page}, and right is {case.fault}"
         ran = program.run("btf-check" if case.is_btf else "insn-groups", case.input)
         right = Ran(1, b"", "fault {} {}\n".format(*case.fault).encode()) if case.fault else Ran(0, b"ok 1 types\n", b"")
-        report.expect(what, ran, right)
-
-
-def main():
-    if len(sys.argv) != 2:
-        sys.exit(__doc__)
-    program, report = Program(sys.argv[1]), Report()
-    with report.group("files that aren't supported"):
-        rows = dict(table("Unsupported inputs", "Input", "Refusal"))
-        files = [what for what, refusal in rows.items() if not causes(refusal) <= OF_INSNS]
-        report.expect_that(files == list(ROWS), "the rows", f"those on files are {files}")
-        for what, cases in ROWS.items():
-            check_row(report, program, what, rows.get(what, ""), cases)
-    return report.end("unsupported files")
-
-
-if __name__ == "__main__":
-    sys.exit(main())
+        assert ran == right, what

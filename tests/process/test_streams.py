@@ -1,7 +1,5 @@
 """Runs the built command as users do: its arguments, its streams, its exit status.
 
-    python3 -m tests.process.streams PROGRAM
-
 No contract says what the system passes to `main`, nor which stream a line goes to. These tests compare both: for
 worked examples of every command, the exit status, the output and the line on standard error.
 """
@@ -11,9 +9,10 @@ import os
 import select
 import socket
 import subprocess
-import sys
 
-from tests.program import SECONDS, Program, Ran, Report
+import pytest
+
+from tests.command import SECONDS, Ran
 from tests.samples import CALL_BY_REGISTER, EXIT, INT_BIG, LOOSE_INT, MOV, MOV_BIG, SOURCE_BESIDE_IMMEDIATE
 
 READ_FAILED = Ran(3, b"", b"read failed\n")
@@ -34,37 +33,35 @@ EACH_COMMAND = [
 ]
 
 
-
-
 # ---- streams that fail
 
 
-def check_failing_reads(program, report):
-    with report.group("standard input is a folder, is closed, or has nothing yet"), open_folder("/") as folder:
+def test_failing_reads(program):
+    with open_folder("/") as folder:
         for line, _ in EACH_COMMAND:
-            report.expect(f"{line} on a folder", program.run(line, stdin=folder), READ_FAILED)
+            assert program.run(line, stdin=folder) == READ_FAILED, f"{line} on a folder"
             closed = program.run(line, preexec_fn=lambda: os.close(0))
-            report.expect(f"{line} on a closed input", closed, READ_FAILED)
+            assert closed == READ_FAILED, f"{line} on a closed input"
             with pipe() as (reader, _):
                 os.set_blocking(reader, False)
-                report.expect(f"{line} on a pipe that would block", program.run(line, stdin=reader), READ_FAILED)
+                assert program.run(line, stdin=reader) == READ_FAILED, f"{line} on a pipe that would block"
 
 
-def check_failing_writes(program, report):
-    with report.group("standard output is full, is closed, or nobody reads it"), open("/dev/full", "wb") as full:
+def test_failing_writes(program):
+    with open("/dev/full", "wb") as full:
         for line, given in EACH_COMMAND:
-            report.expect(f"{line} to a full device", program.run(line, given, stdout=full), WRITE_FAILED)
+            assert program.run(line, given, stdout=full) == WRITE_FAILED, f"{line} to a full device"
             closed = program.run(line, given, preexec_fn=lambda: os.close(1))
-            report.expect(f"{line} to a closed output", closed, WRITE_FAILED)
+            assert closed == WRITE_FAILED, f"{line} to a closed output"
             with pipe() as (reader, writer):
                 os.close(reader)
-                report.expect(f"{line} to a cut pipe", program.run(line, given, stdout=writer), WRITE_FAILED)
+                assert program.run(line, given, stdout=writer) == WRITE_FAILED, f"{line} to a cut pipe"
 
 
-def check_failing_fault_lines(program, report):
+def test_failing_fault_lines(program):
     """Where the line on standard error can't be written, the status and the output are as ever."""
     faulty = EXIT + SOURCE_BESIDE_IMMEDIATE
-    with report.group("standard error is full or is closed"), open("/dev/full", "wb") as full:
+    with open("/dev/full", "wb") as full:
         for line, given, status, output in [
             ("insn-canon", faulty, 1, EXIT),
             ("insn-show", faulty, 1, b""),
@@ -72,8 +69,8 @@ def check_failing_fault_lines(program, report):
             ("insn-show", EXIT, 0, b"exit\n"),
         ]:
             right = Ran(status, output, b"")
-            report.expect(f"{line}, full", program.run(line, given, stderr=full), right)
-            report.expect(f"{line}, closed", program.run(line, given, preexec_fn=lambda: os.close(2)), right)
+            assert program.run(line, given, stderr=full) == right, f"{line}, full"
+            assert program.run(line, given, preexec_fn=lambda: os.close(2)) == right, f"{line}, closed"
 
 
 @contextlib.contextmanager
@@ -136,30 +133,28 @@ def fails_once(call, following):
         return False
 
 
-def check_reads_are_not_tried_again(program, report):
+def test_reads_are_not_tried_again(program):
     with input_that_fails_once(b"") as trial:
         if not fails_once(lambda: trial.recv(1), lambda: trial.recv(1) == b""):
-            return report.skip("a read that fails once", "this system's sockets have no such read")
-    with report.group("a read that fails once is not tried again"):
-        for line, given in EACH_COMMAND:
-            writes_as_it_reads = line == "" or line.startswith("insn-canon")
-            output = program.run(line, given).output if writes_as_it_reads else b""
-            with input_that_fails_once(given) as failing:
-                right = Ran(3, output, b"read failed\n")
-                report.expect(f"{line}, then a failed read", program.run(line, stdin=failing), right)
+            pytest.skip("this system's sockets have no such read")
+    for line, given in EACH_COMMAND:
+        writes_as_it_reads = line == "" or line.startswith("insn-canon")
+        output = program.run(line, given).output if writes_as_it_reads else b""
+        with input_that_fails_once(given) as failing:
+            right = Ran(3, output, b"read failed\n")
+            assert program.run(line, stdin=failing) == right, f"{line}, then a failed read"
 
 
-def check_writes_are_not_tried_again(program, report):
+def test_writes_are_not_tried_again(program):
     try:
         with output_that_fails_once() as trial:
             if not fails_once(lambda: trial.send(b"1"), lambda: trial.send(b"2") == 1):
                 raise OSError("a datagram socket has no such write")
     except OSError as why:
-        return report.skip("a write that fails once", str(why))
-    with report.group("a write that fails once is not tried again"):
-        for line, given in EACH_COMMAND:
-            with output_that_fails_once() as failing:
-                report.expect(f"{line}, to a failed write", program.run(line, given, stdout=failing), WRITE_FAILED)
+        pytest.skip(str(why))
+    for line, given in EACH_COMMAND:
+        with output_that_fails_once() as failing:
+            assert program.run(line, given, stdout=failing) == WRITE_FAILED, f"{line}, to a failed write"
 
 
 # ---- answers before the input's end
@@ -181,36 +176,15 @@ def read_within(stream, count):
     return read
 
 
-def check_answers_amid_the_input(program, report):
-    with report.group("insn-canon answers before its input ends"):
-        for line, given, output in [("", EXIT, EXIT), ("insn-canon --order big", MOV_BIG, MOV)]:
-            with start(program, line) as running:
-                for turn in range(3):
-                    for at in range(len(given)):
-                        running.stdin.write(given[at : at + 1])
-                    read = read_within(running.stdout, len(output))
-                    report.expect_that(read == output, f"{line}, instruction {turn}", f"it gave {read}")
-                running.stdin.write(CALL_BY_REGISTER)
-                message = read_within(running.stderr, len(b"fault 24 Opcode\n"))
-                report.expect_that(message == b"fault 24 Opcode\n", line, f"it wrote {message}")
-                report.expect_that(running.wait(SECONDS) == 1, line, f"status {running.returncode}")
-
-
-def main():
-    if len(sys.argv) != 2:
-        sys.exit(__doc__)
-    program, report = Program(sys.argv[1]), Report()
-    for check in [
-        check_failing_reads,
-        check_failing_writes,
-        check_failing_fault_lines,
-        check_reads_are_not_tried_again,
-        check_writes_are_not_tried_again,
-        check_answers_amid_the_input,
-    ]:
-        check(program, report)
-    return report.end("streams")
-
-
-if __name__ == "__main__":
-    sys.exit(main())
+def test_answers_amid_the_input(program):
+    for line, given, output in [("", EXIT, EXIT), ("insn-canon --order big", MOV_BIG, MOV)]:
+        with start(program, line) as running:
+            for turn in range(3):
+                for at in range(len(given)):
+                    running.stdin.write(given[at : at + 1])
+                read = read_within(running.stdout, len(output))
+                assert read == output, f"{line}, instruction {turn}: it gave {read}"
+            running.stdin.write(CALL_BY_REGISTER)
+            message = read_within(running.stderr, len(b"fault 24 Opcode\n"))
+            assert message == b"fault 24 Opcode\n", f"{line}: it wrote {message}"
+            assert running.wait(SECONDS) == 1, f"{line}: status {running.returncode}"

@@ -1,16 +1,12 @@
-"""Tries the rows of README.md's table that says why not something else, except the one about the kernel, which needs root.
+"""Tries the rows of README.md's table that says why not something else, except the one about the kernel, which needs root."""
 
-    python3 -m tests.pages.alternatives
-"""
-
-import pathlib
 import re
 import subprocess
-import sys
-import tempfile
+
+import pytest
 
 from tests import TOP
-from tests.program import SECONDS, Report
+from tests.command import SECONDS
 from tests.reference.formats_page import cells
 
 SOURCE = '__attribute__((section("xdp"))) int pass(void *ctx)\n{\n\treturn %s\n}\n'
@@ -64,41 +60,38 @@ def made(command, source, folder):
     return (folder / "out").read_bytes()
 
 
-def check_commands(report, table, folder):
+def test_rows():
+    assert list(rows()) == list(COMMANDS)
+
+
+@pytest.mark.needs("clang", "llvm-objcopy", "llvm-strip", "bpftool")
+@pytest.mark.slow
+def test_commands(tmp_path):
+    table, folder = rows(), tmp_path
     before, after, other = (SOURCE % value for value in VERSIONS.values())
     for row, commands in COMMANDS.items():
         for command in commands:
             is_equal = made(command, before, folder) == made(command, after, folder)
             is_right = table[row].startswith("equal") if is_equal else "`.BTF` differs" in table[row]
-            report.expect_that(is_right, command, f"that the file is equal is {is_equal}, and the page says {table[row]!r}")
+            assert is_right, f"{command}: that the file is equal is {is_equal}, and the page says {table[row]!r}"
     (dump,) = COMMANDS["`bpftool btf dump file after.o format raw`"]
-    report.expect_that(made(dump, after, folder) == made(dump, other, folder), dump, "it is another one for `return 1;`")
-    report.expect_that(made(MOVING, before, folder) != made(MOVING, MOVED, folder), MOVING, "it is equal after a line was moved")
+    assert made(dump, after, folder) == made(dump, other, folder), f"{dump}: it is another one for `return 1;`"
+    assert made(MOVING, before, folder) != made(MOVING, MOVED, folder), f"{MOVING}: it is equal after a line was moved"
     piped, kept = COMMANDS["`clang -E -P`, and compile what it prints"]
-    report.expect_that(made(piped, before, folder) != made(piped, f"/* a note */\n{before}", folder), piped, "it is equal after a first comment")
+    assert made(piped, before, folder) != made(piped, f"/* a note */\n{before}", folder), f"{piped}: it is equal after a first comment"
     # What a verifier's log shows is in .BTF.
     has_lines = [b"return 2;" in made(command, before, folder) for command in (piped, kept)]
-    report.expect_that(has_lines == [False, True], piped, f"that the file has the line of source is {has_lines}, the second time not piped")
+    assert has_lines == [False, True], f"{piped}: that the file has the line of source is {has_lines}, the second time not piped"
 
 
-def check_refused(report, table, folder):
-    for row, command in REFUSED.items():
-        subprocess.run(["bash", "-euc", command], cwd=folder, check=True, timeout=SECONDS)
-        words = ["bpftool", "gen", "skeleton", "object.o"]
-        done = subprocess.run(words, cwd=folder, capture_output=True, text=True, timeout=SECONDS)
-        message = re.search(r'"(.*)"', table[row])[1]
-        report.expect_that(done.returncode != 0 and message in done.stderr, row, f"libbpf says {done.stderr!r}")
-
-
-def main():
-    report, table = Report(), rows()
-    with report.group("why not something else, by README.md"), tempfile.TemporaryDirectory() as folder:
-        report.expect_that(list(table) == list(COMMANDS), "the rows", f"they are {list(table)}")
-        if not report.lacks("the table of README.md", "clang", "llvm-objcopy", "llvm-strip", "bpftool"):
-            check_commands(report, table, pathlib.Path(folder))
-            check_refused(report, table, pathlib.Path(folder))
-    return report.end("alternatives")
-
-
-if __name__ == "__main__":
-    sys.exit(main())
+@pytest.mark.needs("clang", "llvm-strip", "bpftool")
+@pytest.mark.slow
+@pytest.mark.parametrize("row, command", REFUSED.items(), ids=REFUSED)
+def test_refused(tmp_path, row, command):
+    table, folder = rows(), tmp_path
+    (folder / "pass.c").write_text(SOURCE % "2;")
+    subprocess.run(["bash", "-euc", command], cwd=folder, check=True, timeout=SECONDS)
+    words = ["bpftool", "gen", "skeleton", "object.o"]
+    done = subprocess.run(words, cwd=folder, capture_output=True, text=True, timeout=SECONDS)
+    message = re.search(r'"(.*)"', table[row])[1]
+    assert done.returncode != 0 and message in done.stderr, f"{row}: libbpf says {done.stderr!r}"

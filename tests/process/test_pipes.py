@@ -1,8 +1,6 @@
 """Runs the built program between pipes: cut off, endless, and silent before their end.
 
-    python3 -m tests.process.pipes PROGRAM
-
-streams.py has streams that fail from the start, and failing_calls.py reads and writes that move single bytes. Here a reader goes away
+test_streams.py has streams that fail from the start, and test_failing_calls.py reads and writes that move single bytes. Here a reader goes away
 in the middle of the output, and a writer that never ends or pauses.
 """
 
@@ -16,8 +14,9 @@ import termios
 import threading
 
 from tests import samples
-from tests.process import vectors
-from tests.program import SECONDS, Program, Ran, Report
+from tests import vector_rows
+from tests.process.test_vectors import GROUP_NAMES
+from tests.command import SECONDS, Ran
 from tests.reference import insn_reference
 from tests.samples import EXIT, btf, floats
 
@@ -97,16 +96,15 @@ class Running:
 # ---- cut off
 
 
-def check_readers_that_go_away(program, report):
-    with report.group("the reader of standard output goes away amid the output"):
-        for line, given, output in large_outputs():
-            for count in [1, 7, 4_096, 65_537, 150_000]:
-                with Running(program, line) as running:
-                    running.feed([given])
-                    read = running.read(count)
-                    running.process.stdout.close()
-                    right = Ran(3, output[:count], b"write failed\n")
-                    report.expect(f"{line}, cut off after {count} bytes", running.end(read), right)
+def test_readers_that_go_away(program):
+    for line, given, output in large_outputs():
+        for count in [1, 7, 4_096, 65_537, 150_000]:
+            with Running(program, line) as running:
+                running.feed([given])
+                read = running.read(count)
+                running.process.stdout.close()
+                right = Ran(3, output[:count], b"write failed\n")
+                assert running.end(read) == right, f"{line}, cut off after {count} bytes"
 
 
 def endless(piece):
@@ -115,38 +113,36 @@ def endless(piece):
         yield piece
 
 
-def check_cut_amid_an_endless_input(program, report):
-    with report.group("the reader goes away, and the input never ends"):
-        for line, piece, output in [("", EXIT, EXIT), ("insn-canon --order big", samples.MOV_BIG, samples.MOV)]:
-            with Running(program, line) as running:
-                running.feed(endless(piece))
-                read = running.read(1_000)
-                running.process.stdout.close()
-                right = Ran(3, (output * 125)[:1_000], b"write failed\n")
-                report.expect(f"{line}, cut off", running.end(read), right)
-                report.expect_that(running.cut.wait(SECONDS), line, "its writer was not cut off")
+def test_cut_amid_an_endless_input(program):
+    for line, piece, output in [("", EXIT, EXIT), ("insn-canon --order big", samples.MOV_BIG, samples.MOV)]:
+        with Running(program, line) as running:
+            running.feed(endless(piece))
+            read = running.read(1_000)
+            running.process.stdout.close()
+            right = Ran(3, (output * 125)[:1_000], b"write failed\n")
+            assert running.end(read) == right, f"{line}, cut off"
+            assert running.cut.wait(SECONDS), f"{line}: its writer was not cut off"
 
 
-def check_fault_lines_to_a_cut_pipe(program, report):
-    with report.group("nobody reads standard error"):
-        for line, given, status, output in [
-            ("insn-canon", EXIT + samples.REGISTER_ELEVEN, 1, EXIT),
-            ("insn-show", samples.REGISTER_ELEVEN, 1, b""),
-            ("insn-read", b"leave", 1, b""),
-            ("insn-groups", samples.REGISTER_ELEVEN, 1, b""),
-            ("insn-same --split 9", EXIT, 1, b""),
-            ("btf-canon", b"", 1, b""),
-            ("btf-show", b"", 1, b""),
-            ("btf-check", b"", 1, b""),
-            ("btf-same --split 0", b"", 1, b""),
-            ("leave", b"", 2, b""),
-        ]:
-            reader, writer = os.pipe()
-            os.close(reader)
-            try:
-                report.expect(line, program.run(line, given, stderr=writer), Ran(status, output, b""))
-            finally:
-                os.close(writer)
+def test_fault_lines_to_a_cut_pipe(program):
+    for line, given, status, output in [
+        ("insn-canon", EXIT + samples.REGISTER_ELEVEN, 1, EXIT),
+        ("insn-show", samples.REGISTER_ELEVEN, 1, b""),
+        ("insn-read", b"leave", 1, b""),
+        ("insn-groups", samples.REGISTER_ELEVEN, 1, b""),
+        ("insn-same --split 9", EXIT, 1, b""),
+        ("btf-canon", b"", 1, b""),
+        ("btf-show", b"", 1, b""),
+        ("btf-check", b"", 1, b""),
+        ("btf-same --split 0", b"", 1, b""),
+        ("leave", b"", 2, b""),
+    ]:
+        reader, writer = os.pipe()
+        os.close(reader)
+        try:
+            assert program.run(line, given, stderr=writer) == Ran(status, output, b""), line
+        finally:
+            os.close(writer)
 
 
 # ---- endless
@@ -154,9 +150,9 @@ def check_fault_lines_to_a_cut_pipe(program, report):
 INSTRUCTION_LIMIT = 67_108_864
 
 
-def check_endless_inputs(program, report):
+def test_endless_inputs(program):
     too_long = Ran(1, b"", b"too long\n")
-    with report.group("an input that never ends"), open("/dev/zero", "rb") as zeros:
+    with open("/dev/zero", "rb") as zeros:
         for line in [
             "insn-show",
             "insn-read",
@@ -167,15 +163,15 @@ def check_endless_inputs(program, report):
             "btf-check",
             "btf-same --split 45",
         ]:
-            report.expect(f"{line} of zero bytes", program.run(line, stdin=zeros), too_long)
+            assert program.run(line, stdin=zeros) == too_long, f"{line} of zero bytes"
         message = Ran(1, b"", b"fault 0 Opcode\n")
-        report.expect("insn-canon of zero bytes", program.run("insn-canon", stdin=zeros), message)
+        assert program.run("insn-canon", stdin=zeros) == message, "insn-canon of zero bytes"
         with Running(program, "insn-canon") as running:
             running.feed(endless(EXIT))
             read = running.read(INSTRUCTION_LIMIT + 1)
             right = Ran(1, EXIT * (INSTRUCTION_LIMIT // len(EXIT)), b"too long\n")
-            report.expect("insn-canon of exits", running.end(read), right)
-            report.expect_that(running.cut.wait(SECONDS), "insn-canon of exits", "its writer was not cut off")
+            assert running.end(read) == right, "insn-canon of exits"
+            assert running.cut.wait(SECONDS), "insn-canon of exits: its writer was not cut off"
 
 
 # ---- an input that isn't finished
@@ -188,13 +184,13 @@ def unread(stream):
 
 def lines_of_commands():
     """A line of each command, good and faulty, with some hundred bytes of input."""
-    rows = vectors.rows("insn")[::9]
-    insns, turned = (b"".join(vectors.data(row[at]) for row in rows) for at in (1, 2))
+    rows = vector_rows.rows("insn")[::9]
+    insns, turned = (b"".join(vector_rows.data(row[at]) for row in rows) for at in (1, 2))
     text = b"".join(row[0].encode() + b"\n" for row in rows)
-    _, _, little, big, count, shown = max(vectors.rows("btf"), key=lambda row: len(row[2]))
-    little, big, shown, count = vectors.data(little), vectors.data(big), vectors.text(shown), int(count)
+    _, _, little, big, count, shown = max(vector_rows.rows("btf"), key=lambda row: len(row[2]))
+    little, big, shown, count = vector_rows.data(little), vector_rows.data(big), vector_rows.text(shown), int(count)
     groups = {group for row in rows for group in insn_reference.included()[row[3]]}
-    listed = b"".join(group.encode() + b"\n" for group in vectors.GROUPS if group in groups)
+    listed = b"".join(group.encode() + b"\n" for group in GROUP_NAMES if group in groups)
     at_fault = f"fault {len(insns) + 8} Truncated\n".encode()
     return [
         ("", insns, Ran(0, insns, b"")),
@@ -214,37 +210,17 @@ def lines_of_commands():
     ]
 
 
-def check_silence_before_the_end(program, report):
+def test_silence_before_the_end(program):
     """All but insn-canon write when their input has ended, and report no fault before."""
-    with report.group("nothing comes before the end of the input"):
-        for line, given, right in lines_of_commands():
-            if line == "" or line.startswith("insn-canon"):
-                continue
-            with Running(program, line) as running:
-                process = running.process
-                process.stdin.write(given)
-                while unread(process.stdin):
-                    os.sched_yield()
-                early = select.select([process.stdout, process.stderr], [], [], 0.02)[0]
-                report.expect_that(not early, line, "it wrote before its input ended")
-                process.stdin.close()
-                report.expect(f"{line}, ended", running.end(running.read(len(right.output) + 1)), right)
-
-
-def main():
-    if len(sys.argv) != 2:
-        sys.exit(__doc__)
-    program, report = Program(sys.argv[1]), Report()
-    for check in [
-        check_readers_that_go_away,
-        check_cut_amid_an_endless_input,
-        check_fault_lines_to_a_cut_pipe,
-        check_endless_inputs,
-        check_silence_before_the_end,
-    ]:
-        check(program, report)
-    return report.end("pipes")
-
-
-if __name__ == "__main__":
-    sys.exit(main())
+    for line, given, right in lines_of_commands():
+        if line == "" or line.startswith("insn-canon"):
+            continue
+        with Running(program, line) as running:
+            process = running.process
+            process.stdin.write(given)
+            while unread(process.stdin):
+                os.sched_yield()
+            early = select.select([process.stdout, process.stderr], [], [], 0.02)[0]
+            assert not early, f"{line}: it wrote before its input ended"
+            process.stdin.close()
+            assert running.end(running.read(len(right.output) + 1)) == right, f"{line}, ended"

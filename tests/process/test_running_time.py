@@ -1,8 +1,6 @@
 """Limits the time and the memory of the BTF commands on large inputs that are hard for them, and the memory of two commands for
 instructions on the largest programs.
 
-    python3 -m tests.process.running_time PROGRAM
-
 Each BTF file goes through btf-check, btf-canon and btf-same. A run may need twenty times the processor time that was measured, and
 an address space of eight times its input; valid names in the longest string section may need four times. The margins are wide, so
 that a slower machine passes and another order of growth doesn't: a quadratic search needs hundreds of times as long here.
@@ -18,7 +16,9 @@ import sys
 import tempfile
 from typing import Callable, NamedTuple
 
-from tests.program import Report
+
+import pytest
+
 from tests.samples import EXIT, MOV, MOV_BIG, WIDE, WIDE_BIG, btf
 
 MEGABYTE = 1 << 20
@@ -201,36 +201,28 @@ def is_output(line, output, file, is_canonical):
     return output.startswith(b"ok ") if line == "btf-check" else output == b"same\n"
 
 
-def check(program, report, name, input):
+@pytest.mark.parametrize("name", INPUTS)
+def test_types(program, name):
+    input = INPUTS[name]
     file = input.make()
     for (line, given), seconds in zip(lines_of(file), input.seconds, strict=True):
-        ran = run(program, line, given, input.times * len(given))
-        is_right = ran.status == 0 and is_output(line, ran.output, file, input.is_canonical)
-        report.expect_that(is_right, f"{line}, {name}", f"within {input.times} times its input it gave {ran.status}, {ran.output[:40]}")
-        limit = TIMES_THE_TIME * seconds
-        report.expect_that(ran.seconds <= limit, f"{line}, {name}", f"it took {ran.seconds:.2f} s, and {limit:.2f} s are the limit")
+        ran = run(program.path, line, given, input.times * len(given))
+        assert ran.status == 0, f"{line} within {input.times} times its input: {ran.output[:40]}"
+        assert is_output(line, ran.output, file, input.is_canonical), line
+        assert ran.seconds <= TIMES_THE_TIME * seconds, line
 
 
-def check_programs(program, report):
-    with report.group("time and memory with the largest programs"):
-        for line, given, output, seconds in largest_programs():
-            ran = run(program, line, given, int(TIMES_THE_PROGRAM * len(given)))
-            is_right = (ran.status, ran.output) == (0, output)
-            report.expect_that(is_right, line, f"within {TIMES_THE_PROGRAM} times its input it gave {ran.status}, {ran.output[:40]}")
-            limit = TIMES_THE_TIME * seconds
-            report.expect_that(ran.seconds <= limit, line, f"it took {ran.seconds:.2f} s, and {limit:.2f} s are the limit")
+@pytest.mark.parametrize("number", range(4))
+def test_programs(program, number):
+    line, given, output, seconds = largest_programs()[number]
+    ran = run(program.path, line, given, int(TIMES_THE_PROGRAM * len(given)))
+    assert (ran.status, ran.output) == (0, output), line
+    assert ran.seconds <= TIMES_THE_TIME * seconds, line
 
 
-def main():
-    if len(sys.argv) != 2:
-        sys.exit(__doc__)
-    program, report = sys.argv[1], Report()
-    for name, input in INPUTS.items():
-        with report.group(f"time and memory with {name}"):
-            check(program, report, name, input)
-    check_programs(program, report)
-    return report.end("running time")
-
-
-if __name__ == "__main__":
-    sys.exit(main())
+def test_limits():
+    """A run that takes time or memory is measured, and ended at its limit."""
+    spending = run(sys.executable, "-c sum(range(1_000_000))", b"", 1 << 40)
+    assert spending.status == 0 and spending.seconds > 0.01
+    taking = [run(sys.executable, "-c bytearray(400<<20)", b"", memory).status for memory in (1 << 40, 300 << 20)]
+    assert taking == [0, 1]

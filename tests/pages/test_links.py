@@ -1,13 +1,11 @@
-"""Checks what the pages refer to: each link leads to a file and a heading, each file and name in code exists, and README names each page.
-
-    python3 -m tests.pages.links
-"""
+"""Checks what the pages refer to: each link leads to a file and a heading, each file and name in code exists, and README names each page."""
 
 import re
-import sys
+
+import pytest
 
 from tests import TOP
-from tests.program import Report
+
 
 PAGES = [TOP / name for name in ("README.md", "SECURITY.md", "CHANGELOG.md", "testdata/README.md", "bench/README.md")]
 PAGES += sorted([*TOP.glob("docs/*.md"), *TOP.glob("bindings/*/README.md")])
@@ -42,24 +40,27 @@ def headings(path):
     return {slug(name) for name in re.findall(r"^#+ (.*)$", BLOCK.sub("", path.read_text()), re.MULTILINE)}
 
 
-def check_links(report, page):
+@pytest.mark.parametrize("page", PAGES, ids=lambda it: str(it.relative_to(TOP)))
+def test_links(page):
     for target in LINK.findall(BLOCK.sub("", page.read_text())):
         if "://" in target:
             continue
         name, _, anchor = target.partition("#")
         path = page.parent / name if name else page
-        report.expect_that(path.exists(), target, "there is no such file")
+        assert path.exists(), f"{target}: there is no such file"
         if anchor and path.exists():
-            report.expect_that(anchor in headings(path), target, "the page has no such heading")
+            assert anchor in headings(path), f"{target}: the page has no such heading"
 
 
-def check_files(report, page, names):
+@pytest.mark.parametrize("page", PAGES, ids=lambda it: str(it.relative_to(TOP)))
+def test_files(page):
     """A name may leave out the first folders."""
+    names = [str(path.relative_to(TOP)) for path in files_of("**/*")]
     for name in FILE.findall(BLOCK.sub("", page.read_text())):
         if name in MADE or STANDS_FOR.search(name):
             continue
         pattern = re.compile(r"(?:.*/)?" + re.escape(name).replace(r"\*", r"[^/]*"))
-        report.expect_that(any(map(pattern.fullmatch, names)), f"`{name}`", "there is no such file")
+        assert any(map(pattern.fullmatch, names)), f"`{name}`: there is no such file"
 
 
 def files_of(*patterns):
@@ -68,32 +69,18 @@ def files_of(*patterns):
     return [path for path in found if not MADE_IN & set(path.relative_to(TOP).parts)]
 
 
-def check_names(report):
+@pytest.mark.parametrize("page", TOP.glob("docs/*.md"), ids=lambda it: it.name)
+def test_readme(page):
+    """README is short, and names each page."""
+    readme = PAGES[0].read_text()
+    assert len(readme.splitlines()) <= 160 and f"docs/{page.name}" in readme
+
+
+def test_names():
     """Each name in code on the pages about the sources is in the sources, or is that of a file."""
     known = {name for path in files_of(*SOURCES) for name in re.findall(r"\w+", path.read_text(errors="replace"))}
     known |= {path.stem for path in TOP.glob("crates/*/must-fail/*.edit")}
     for page in ON_SOURCES:
         text = BLOCK.sub("", (TOP / "docs" / f"{page}.md").read_text())
-        with report.group(f"names on docs/{page}.md"):
-            for name in sorted(it for it in set(NAME.findall(text)) - NO_NAMES if not it.startswith(OF_KIT)):
-                report.expect_that(all(part in known for part in name.split("::")), f"`{name}`", "no source contains it")
-
-
-def main():
-    report = Report()
-    names = [str(path.relative_to(TOP)) for path in files_of("**/*")]
-    with report.group("the length of README, and the pages that it names"):
-        length = len(PAGES[0].read_text().splitlines())
-        report.expect_that(length <= 160, "README.md", f"it has {length} lines, and at most 160 are read")
-        for page in TOP.glob("docs/*.md"):
-            report.expect_that(f"docs/{page.name}" in PAGES[0].read_text(), page.name, "README doesn't name it")
-    for page in PAGES:
-        with report.group(f"links and files of {page.relative_to(TOP)}"):
-            check_links(report, page)
-            check_files(report, page, names)
-    check_names(report)
-    return report.end("links")
-
-
-if __name__ == "__main__":
-    sys.exit(main())
+        for name in sorted(it for it in set(NAME.findall(text)) - NO_NAMES if not it.startswith(OF_KIT)):
+            assert all(part in known for part in name.split("::")), f"`{name}`: no source contains it"

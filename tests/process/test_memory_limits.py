@@ -1,24 +1,23 @@
 """Runs the built command within memory limits of the system, from too little to ample.
 
-    python3 -m tests.process.memory_limits PROGRAM
-
 Two results are right within any limit: the one with ample memory; status 3 with `no memory`, or `no words` if not even the command's
 arguments could be stored. Nothing is written then, except a prefix of the output by insn-canon, which writes as it reads, and by
 insn-show and btf-show, which write in pieces. If the limit is so low that the system can't load the command, the system ends it: the
 kernel by a signal or, with more memory, the loader with a message and status 127.
 
 Then two commands may grow by little memory while they run: insn-canon on the largest input, and btf-show on names that share their
-bytes. refused_memory.py refuses the allocations of each command one by one.
+bytes. test_refused_memory.py refuses the allocations of each command one by one.
 """
 
 import os
 import re
 import resource
-import sys
+
+import pytest
 
 from tests import samples
-from tests.process.pipes import Running
-from tests.program import Program, Ran, Report
+from tests.process.test_pipes import Running
+from tests.command import Ran
 from tests.samples import EXIT, btf, floats
 
 PAGE = resource.getpagesize()
@@ -26,6 +25,7 @@ MEGABYTE = 1 << 20
 LIMITS = {"address space": resource.RLIMIT_AS, "data": resource.RLIMIT_DATA}
 # What the loader says if it can't map the C library, or has no memory for itself.
 LOADER = re.compile(rb"error while loading shared libraries|cannot allocate TLS|cannot create|out of memory|cannot map")
+
 
 def is_refusal(ran, line, right, messages=(b"no memory\n",)):
     """Whether the command reported that it ran out of memory, and wrote nothing that it shouldn't."""
@@ -61,33 +61,31 @@ def least_loaded(program, kind):
     return low, high
 
 
-def check_limits_from_the_start(program, report):
-    for name, kind in LIMITS.items():
-        loaded = least_loaded(program, kind)
-        if loaded is None:
-            report.skip(f"a limit of {name} from the start", "this system can't start the program within 64 MB")
-            continue
-        low, high = loaded
-        with report.group(f"a limit of {name} from the start, a page more each time"):
-            by_loader = run_within(program, kind, low * PAGE, "leave", b"")
-            # if the last one ended by a signal, the command itself could have been killed
-            report.expect_that(by_loader.status == 127, "the greatest limit without a start", f"it gave {by_loader}")
-            for line, given, right in [
-                ("insn-canon", EXIT, Ran(0, EXIT, b"")),
-                ("insn-show", EXIT, Ran(0, b"exit\n", b"")),
-                ("btf-check", samples.INT, Ran(0, b"ok 1 types\n", b"")),
-                ("leave", EXIT, samples.USAGE),
-            ]:
-                messages = set()
-                for pages in range(high, high + 80):
-                    ran = run_within(program, kind, pages * PAGE, line, given)
-                    is_right = ran == right or is_refusal(ran, line, right, (b"no memory\n", b"no words\n"))
-                    report.expect_that(is_right, f"{line}, {pages} pages", f"it gave {ran}, and right is {right}")
-                    messages.add(ran.message)
-                    if ran == right:
-                        break
-                report.expect_that(ran == right, f"{line}, {pages} pages", f"it still gave {ran}")
-                report.expect_that(b"no words\n" in messages, line, f"no limit gave `no words`, but {messages}")
+@pytest.mark.parametrize("kind", LIMITS.values(), ids=LIMITS)
+def test_limits_from_the_start(program, kind):
+    loaded = least_loaded(program, kind)
+    if loaded is None:
+        pytest.skip("this system can't start the program within 64 MB")
+    low, high = loaded
+    by_loader = run_within(program, kind, low * PAGE, "leave", b"")
+    # if the last one ended by a signal, the command itself could have been killed
+    assert by_loader.status == 127, f"the greatest limit without a start: it gave {by_loader}"
+    for line, given, right in [
+        ("insn-canon", EXIT, Ran(0, EXIT, b"")),
+        ("insn-show", EXIT, Ran(0, b"exit\n", b"")),
+        ("btf-check", samples.INT, Ran(0, b"ok 1 types\n", b"")),
+        ("leave", EXIT, samples.USAGE),
+    ]:
+        messages = set()
+        for pages in range(high, high + 80):
+            ran = run_within(program, kind, pages * PAGE, line, given)
+            is_right = ran == right or is_refusal(ran, line, right, (b"no memory\n", b"no words\n"))
+            assert is_right, f"{line}, {pages} pages: it gave {ran}, and right is {right}"
+            messages.add(ran.message)
+            if ran == right:
+                break
+        assert ran == right, f"{line}, {pages} pages: it still gave {ran}"
+        assert b"no words\n" in messages, f"{line}: no limit gave `no words`, but {messages}"
 
 
 # ---- limits that are set while the command runs
@@ -113,36 +111,17 @@ def run_limited_amid(program, kind, more, line, given, first):
         return running.end(output)
 
 
-def check_streams_in_little_memory(program, report):
+def test_streams_in_little_memory(program):
     """insn-canon doesn't keep its input, so it needs no more for the largest than for the first piece."""
     given = EXIT * (67_108_864 // len(EXIT))
-    with report.group("insn-canon of the largest input, which may grow by 256 KB"):
-        ran = run_limited_amid(program, resource.RLIMIT_AS, 256 << 10, "insn-canon", given, 16_384)
-        report.expect("insn-canon", ran, Ran(0, given, b""))
+    ran = run_limited_amid(program, resource.RLIMIT_AS, 256 << 10, "insn-canon", given, 16_384)
+    assert ran == Ran(0, given, b""), "insn-canon"
 
 
-def check_shows_names_in_little_memory(program, report):
+def test_shows_names_in_little_memory(program):
     """All names end in one 1 MB string, so the listing is 64 times as long as the file: btf-show stores no more of it than a line."""
     name, count = b"n" * MEGABYTE, 64
     given = btf("little", floats(range(1, count + 1)), b"\0" + name + b"\0")
     text = b"".join(b'[%d] float "%s" size=8\n' % (number, name[number - 1 :]) for number in range(1, count + 1))
-    with report.group("btf-show of names that share their bytes, which may grow by 8 MB"):
-        ran = run_limited_amid(program, resource.RLIMIT_AS, 8 * MEGABYTE, "btf-show", given, 16_384)
-        report.expect_that(ran == Ran(0, text, b""), "btf-show", f"it ended with {ran.status}, {ran.message}, {len(ran.output)} bytes")
-
-
-def main():
-    if len(sys.argv) != 2:
-        sys.exit(__doc__)
-    program, report = Program(sys.argv[1]), Report()
-    for check in [
-        check_limits_from_the_start,
-        check_streams_in_little_memory,
-        check_shows_names_in_little_memory,
-    ]:
-        check(program, report)
-    return report.end("memory limits")
-
-
-if __name__ == "__main__":
-    sys.exit(main())
+    ran = run_limited_amid(program, resource.RLIMIT_AS, 8 * MEGABYTE, "btf-show", given, 16_384)
+    assert ran == Ran(0, text, b""), f"btf-show: it ended with {ran.status}, {ran.message}, {len(ran.output)} bytes"

@@ -1,26 +1,21 @@
 """Compares docs/TRUST.md with the sources: its contracts, the words that it explains and the files to read.
 
-    python3 -m tests.pages.trust [--program PROGRAM] [--record RECORD]
-
-With --program, the built command, the lines of the console block have to print what the page says. RECORD is out/PROVED.txt, in which
-./verify records the verdicts of the prover: with it, the verdict of the page and the functions of C that this rests on are compared.
+out/PROVED.txt is what `make record` notes of the verdicts of the prover: the verdict of the page and the functions of C that it rests on
+are compared with it, if it is there.
 """
 
-import argparse
 import os
-import pathlib
 import re
 import subprocess
-import sys
-import tempfile
+
+import pytest
 
 from tests import TOP
-from tests.pages.readme import typed_lines
-from tests.program import SECONDS, Report
+from tests.command import SECONDS
 from tests.sources.tables import cells, loaded
 
 FROM_SPECS = loaded("from_specs")
-PAGE = TOP / "docs" / "TRUST.md"
+PAGE, RECORD = TOP / "docs" / "TRUST.md", TOP / "out" / "PROVED.txt"
 TEXT = PAGE.read_text()
 # What the page shows of the sources, in its sequence: functions with their contracts, and definitions.
 FUNCTIONS = ["canon_btf", "canonical_btf_tells_apart", "canonical_btf_is_shortest"]
@@ -34,7 +29,9 @@ BOUND = re.compile(r"λ (\w+)\.|\(((?:\w+ )+):|pub (\w+) :|(\w+): [&A]|ensures (
 # What a file imports from std, and the words of it that mean what they do elsewhere.
 STD_IMPORT = re.compile(r"^(?:pub )?use Rattle\.std\.[^{]*\{([^}]*)\}", re.MULTILINE)
 STD_COUNT = re.compile(r"import (\d+) words of Rattle's standard library")
-PLAIN = set("ℕ zero suc + * < min Bool true false not && || if then else Ordering Option Some None Result Ok Err List map filter reverse".split())
+PLAIN = set(
+    "ℕ zero suc + * < min Bool true false not && || if then else Ordering Option Some None Result Ok Err List map filter reverse".split()
+)
 # A variable and a field of the definitions that have the name of another one.
 NO_CITATIONS = {("btf_types", "is_set"), ("btf_types", "items_of")}
 DEFINED = FROM_SPECS.definitions()
@@ -76,17 +73,16 @@ def blocks(language):
     return [(found.start(), plain(found[2])) for found in BLOCK.finditer(TEXT) if found[1] == language]
 
 
-def check_contracts(report):
+def test_contracts():
     """The blocks are the contracts and definitions of the sources, whole, and the link above a contract leads to its file."""
     known, laws = dict(functions()), dict(definitions())
-    with report.group("the contracts of docs/TRUST.md"):
-        shown = blocks("rattle")
-        report.expect_that([text for _, text in shown] == [known[it][1] for it in FUNCTIONS], "the contracts", f"they are {shown}")
-        for (place, _), name in zip(shown, FUNCTIONS):
-            link = LINK.findall(TEXT, 0, place)[-1]
-            report.expect_that((PAGE.parent / link).resolve() == known[name][0], name, f"{link} isn't its file")
-        shown = [text for _, text in blocks("antt")]
-        report.expect_that(shown == [laws[it] for it in DEFINITIONS], "the definitions", f"they are {shown}")
+    shown = blocks("rattle")
+    assert [text for _, text in shown] == [known[it][1] for it in FUNCTIONS], f"the contracts: they are {shown}"
+    for (place, _), name in zip(shown, FUNCTIONS):
+        link = LINK.findall(TEXT, 0, place)[-1]
+        assert (PAGE.parent / link).resolve() == known[name][0], f"{name}: {link} isn't its file"
+    shown = [text for _, text in blocks("antt")]
+    assert shown == [laws[it] for it in DEFINITIONS], f"the definitions: they are {shown}"
 
 
 def rows(head):
@@ -95,26 +91,24 @@ def rows(head):
     return [cells(line) for line in found[1].splitlines()] if found else []
 
 
-def check_words(report):
+def test_words():
     """Each word of the blocks that isn't bound in them, or Rust, is explained or a definition to read."""
     shown = [text for language in ("rattle", "antt") for _, text in blocks(language)]
     bound = {word for text in shown for names in BOUND.findall(text) for name in names for word in name.split()}
     clauses = [text.partition("ensures")[2] if text.startswith("pub fn") else text for text in shown]
     explained = {word for row in rows("Word") for code in CODE.findall(row[0]) for word in WORD.findall(code)}
     known = explained | bound | {name for _, name in of_three()}
-    with report.group("the words of these contracts"):
-        report.expect_that(len(explained) > 20, "the table of words", f"it explains {sorted(explained)}")
-        for word in sorted({word for text in clauses for word in WORD.findall(text)}):
-            report.expect_that(word in known, f"`{word}`", "the page doesn't explain it")
+    assert len(explained) > 20, f"the table of words: it explains {sorted(explained)}"
+    for word in sorted({word for text in clauses for word in WORD.findall(text)}):
+        assert word in known, f"`{word}`: the page doesn't explain it"
 
 
-def check_files(report):
+def test_files():
     """The table of what to read has each file with a definition that the three contracts rest on, and no other."""
     right = {file_of(key) for key in of_three()}
     shown = [(PAGE.parent / link).resolve() for row in rows("They say") for link in LINK.findall(row[1])]
-    with report.group(f"the {len(right)} files that the three contracts rest on"):
-        for path in sorted(right | set(shown)):
-            report.expect_that(shown.count(path) == 1 and path in right, str(path.relative_to(TOP)), "it is missing, or isn't one of them")
+    for path in sorted(right | set(shown)):
+        assert shown.count(path) == 1 and path in right, f"{str(path.relative_to(TOP))}: it is missing, or isn't one of them"
 
 
 def std_words():
@@ -124,19 +118,18 @@ def std_words():
     return {it.strip().rpartition(".")[2] for names in imported for it in names.split(",")}
 
 
-def check_std(report):
+def test_std():
     """Each word of std that these files import is explained, or means what it does elsewhere, and the table has no other."""
     words, shown = std_words(), rows("Word of std")
     explained = {word for row in rows("Word") + shown for code in CODE.findall(row[0]) for word in WORD.findall(code)}
     found = STD_COUNT.search(TEXT)
-    with report.group("the words of std in these files"):
-        report.expect_that(found and int(found[1]) == len(words), "how many", f"there are {len(words)}")
-        for word in sorted(words):
-            parts = {part for part in word.split("◌") if part}
-            report.expect_that(parts <= explained | PLAIN, word, "the page doesn't explain it")
-        for row in shown:
-            names = {name for name in re.findall(r"\w{4,}", row[0])}
-            report.expect_that(names <= words, row[0], f"{sorted(names - words)} isn't imported")
+    assert found and int(found[1]) == len(words), f"how many: there are {len(words)}"
+    for word in sorted(words):
+        parts = {part for part in word.split("◌") if part}
+        assert parts <= explained | PLAIN, f"{word}: the page doesn't explain it"
+    for row in shown:
+        names = {name for name in re.findall(r"\w{4,}", row[0])}
+        assert names <= words, f"{row[0]}: {sorted(names - words)} isn't imported"
 
 
 def verdict():
@@ -149,55 +142,34 @@ def functions_of_c():
     return sorted(code for row in rows("Function of C") for code in CODE.findall(row[0]))
 
 
-def check_verdict(report):
+def test_verdict():
     """Each word of the verdict is explained, and it counts the functions of C that the page lists."""
     words, listed = verdict(), functions_of_c()
     explained = {code.partition("=")[0] for row in rows("Word of the verdict") for code in CODE.findall(row[0])}
-    with report.group("the verdict of docs/TRUST.md"):
-        report.expect_that(f"axioms={len(listed)}" in words, "the functions of C", f"they are {listed}")
-        for word in words:
-            report.expect_that(word.partition("=")[0] in explained, word, "the page doesn't explain it")
+    assert f"axioms={len(listed)}" in words, f"the functions of C: they are {listed}"
+    for word in words:
+        assert word.partition("=")[0] in explained, f"{word}: the page doesn't explain it"
 
 
-def check_record(report, record):
+@pytest.mark.skipif(not RECORD.exists(), reason="there is no out/PROVED.txt: make record")
+def test_record():
     """A verdict of the record has the words of the page, and rests on the functions of C that the page lists."""
-    lines = record.read_text().splitlines()
+    lines = RECORD.read_text().splitlines()
     verdicts = [line.split() for line in lines if line.startswith("logic=proved ")]
     reached = sorted({line.split()[0] for line in lines if line.endswith(" reached")})
-    with report.group("the verdict that ./verify recorded"):
-        report.expect_that(any(set(verdict()) <= set(it) for it in verdicts), " ".join(verdict()), "no verdict has these words")
-        report.expect_that(reached == functions_of_c(), "the functions of C", f"the verdicts rest on {reached}")
+    assert any(set(verdict()) <= set(it) for it in verdicts), (" ".join(verdict()), "no verdict has these words")
+    assert reached == functions_of_c(), f"the functions of C: the verdicts rest on {reached}"
 
 
-def check_console(report, program):
+@pytest.mark.needs("cc")
+def test_console(program, tmp_path):
     """Runs the lines in a folder with what they read."""
     (block,) = (found[2] for found in BLOCK.finditer(TEXT) if found[1] == "console")
-    if report.lacks("the console block of docs/TRUST.md", "cc"):
-        return
-    with report.group("the console block of docs/TRUST.md"), tempfile.TemporaryDirectory() as folder:
-        for name in "bench", "testdata", "tests":
-            os.symlink(TOP / name, f"{folder}/{name}")
-        os.symlink(program, f"{folder}/bpfcanon")
-        environment = os.environ | {"PATH": f"{folder}:{os.environ['PATH']}", "PYTHONDONTWRITEBYTECODE": "1"}
-        for line, printed in typed_lines(block):
-            how = {"stdout": subprocess.PIPE, "stderr": subprocess.STDOUT, "timeout": SECONDS}
-            done = subprocess.run(["sh", "-c", line], cwd=folder, env=environment, text=True, **how)
-            report.expect_that(done.stdout == printed, line, f"it printed {done.stdout!r}, and the page says {printed!r}")
-
-
-def main():
-    parser = argparse.ArgumentParser(description=__doc__.splitlines()[0])
-    parser.add_argument("--program", type=pathlib.Path, help="the built command")
-    parser.add_argument("--record", type=pathlib.Path, help="out/PROVED.txt")
-    given, report = parser.parse_args(), Report()
-    for check in check_contracts, check_words, check_files, check_std, check_verdict:
-        check(report)
-    if given.program:
-        check_console(report, given.program.resolve())
-    if given.record:
-        check_record(report, given.record)
-    return report.end("trust")
-
-
-if __name__ == "__main__":
-    sys.exit(main())
+    for name in "bench", "testdata", "tests":
+        (tmp_path / name).symlink_to(TOP / name)
+    (tmp_path / "bpfcanon").symlink_to(program.path)
+    environment = os.environ | {"PATH": f"{tmp_path}:{os.environ['PATH']}", "PYTHONDONTWRITEBYTECODE": "1"}
+    for part in re.split(r"^\$ ", block, flags=re.MULTILINE)[1:]:
+        line, _, printed = part.partition("\n")
+        how = {"stdout": subprocess.PIPE, "stderr": subprocess.STDOUT, "timeout": SECONDS}
+        assert subprocess.run(["sh", "-c", line], cwd=tmp_path, env=environment, text=True, **how).stdout == printed

@@ -1,23 +1,21 @@
 """Runs the example of docs/LIBRARY.md over an object file in a language, as a program around it that is compiled if need be.
 
-    python3 -m tests.pages.object_examples PREFIX c|go|python|rust
-
-PREFIX has the C library, as capi/build installs it. clang and what the language needs have to be there: for C libbpf, for Rust the crate
+clang and what the language needs have to be there: for C libbpf, for Rust the crate
 `object` as Debian's librust-object-dev installs it. The example of Python and that of Go have to print the key that docs/OBJECTS.md
 defines by the lines of the manifest, and the others to write the canonical types of the reference checker.
 """
 
 import hashlib
 import os
-import pathlib
 import re
 import subprocess
-import sys
-import tempfile
+
+import pytest
 
 from tests import TOP
 from tests.objects.elf_file import ElfFile
-from tests.program import SECONDS, Report
+from tests.command import SECONDS
+from tests.needs import need
 from tests.reference import btf_reference
 
 OBJECT = "packet_filter.o"
@@ -57,7 +55,14 @@ class Workplace:
         library = str(prefix / "lib")
         self.environment = os.environ | {"BPFCANON_LIBRARY": f"{library}/libbpfcanon.so.0", "PYTHONPATH": str(TOP / "bindings" / "python")}
         self.environment |= {"PKG_CONFIG_PATH": f"{library}/pkgconfig", "LD_LIBRARY_PATH": library, "PYTHONDONTWRITEBYTECODE": "1"}
-        self.environment |= {"GOENV": "off", "GOFLAGS": "", "GOWORK": "off", "GOPROXY": "off", "GOCACHE": f"{folder}/go", "CGO_ENABLED": "1"}
+        self.environment |= {
+            "GOENV": "off",
+            "GOFLAGS": "",
+            "GOWORK": "off",
+            "GOPROXY": "off",
+            "GOCACHE": f"{folder}/go",
+            "CGO_ENABLED": "1",
+        }
         self.environment |= {"CARGO_HOME": f"{folder}/cargo", "CARGO_NET_OFFLINE": "true", "BPFCANON_LIB_DIR": library, "RUSTFLAGS": ""}
         path = folder / FILES[language]
         path.parent.mkdir(exist_ok=True)
@@ -99,18 +104,40 @@ class Workplace:
         return btf_reference.canonical(bytes(ElfFile.read((self.folder / OBJECT).read_bytes()).find(b".BTF").content))
 
 
-def main():
-    if len(sys.argv) != 3 or sys.argv[2] not in FILES:
-        sys.exit(__doc__)
-    prefix, language = pathlib.Path(sys.argv[1]).resolve(), sys.argv[2]
-    report = Report()
-    with report.group(f"the example of docs/LIBRARY.md in {language}"), tempfile.TemporaryDirectory() as name:
-        work = Workplace(pathlib.Path(name).resolve(), prefix, language)
-        got = getattr(work, language)()
-        right = work.right_key() if language in ("go", "python") else work.right_types()
-        report.expect_that(got == right, OBJECT, f"it gave {got!r}, and right is {right!r}")
-    return report.end("the example over an object file")
+NEEDS = {"c": ["cc", "libbpf"], "go": ["go", "cc"], "python": ["python3"], "rust": ["cargo", "cc", "librust-object-dev"]}
 
 
-if __name__ == "__main__":
-    sys.exit(main())
+@pytest.mark.parametrize("language", NEEDS)
+@pytest.mark.needs("clang")
+def test_example(prefix, tmp_path, language):
+    need(*NEEDS[language])
+    work = Workplace(tmp_path, prefix, language)
+    got = getattr(work, language)()
+    assert got == (work.right_key() if language in ("go", "python") else work.right_types())
+
+
+@pytest.mark.needs("cc")
+def test_members(prefix, tmp_path):
+    """members.txt has the members of the struct in testdata/flow_table.c, with their offsets in bits. Pointers have no names."""
+    text = next(
+        it
+        for it in re.findall(r"^```c\n(.*?)^```$", (TOP / "docs" / "LIBRARY.md").read_text(), re.MULTILINE | re.DOTALL)
+        if "each_item" in it
+    )
+    (tmp_path / "members.c").write_text(text)
+    words = [
+        "cc",
+        "-std=c11",
+        "-Wall",
+        "-Wextra",
+        "-Werror",
+        f"-I{prefix}/include",
+        "members.c",
+        f"{prefix}/lib/libbpfcanon.a",
+        "-o",
+        "members",
+    ]
+    subprocess.run(words, cwd=tmp_path, check=True)
+    for order in "little", "big":
+        file = (TOP / "testdata" / f"flow_table.{order}.btf").read_bytes()
+        assert subprocess.check_output([tmp_path / "members"], input=file) == (TOP / "tests" / "c_interface" / "members.txt").read_bytes()

@@ -1,23 +1,24 @@
 """Checks that the pages of an installation name only files that are installed, or say that a file is in the repository.
 
-    python3 -m tests.pages.installed
-
 A reader of share/doc/bpfcanon has no other file of the repository. Each link has to lead to an installed file. A path in code has to be
-that of one, unless its paragraph, its item of a list or its row of a table says "repository". Blocks of code are left out: tests/recipes
-runs those of RECIPES and SECTIONS in a folder of an installation. What ./install installs is compared with the list by
-tests/process/install.py.
+that of one, unless its paragraph, its item of a list or its row of a table says "repository". Blocks of code are left out: the plugin
+runs them.
 """
 
 import pathlib
 import re
-import sys
+
+import pytest
 
 from tests import TOP
-from tests.pages.links import BLOCK, LINK, MADE, STANDS_FOR, files_of
-from tests.process.install import FILES
-from tests.program import Report
+from tests.pages.test_links import BLOCK, LINK, MADE, STANDS_FOR, files_of
 
 DOC = "share/doc/bpfcanon/"
+# What meson.build installs of the tree for its readers.
+MESON = (TOP / "meson.build").read_text()
+PAGES = re.search(r"^foreach page : \[(.*)\]$", MESON, re.MULTILINE)[1].replace("'", "").split(", ")
+PLACES = {name: TOP / name for name in ["README.md", "CHANGELOG.md", "SECURITY.md", *(f"docs/{page}.md" for page in PAGES)]}
+PLACES |= {name: TOP / name for name in re.findall(r"'((?:recipes|testdata)/\w+\.c)'", MESON)}
 # A name in code that may be a path: it has a slash or an ending, for example `./verify` and `crates.txt`.
 PATH = re.compile(r"`(?:\./)?([\w.*-]+/[\w./*-]*|\w[\w.*-]*\.[a-z]+|(?<=/)[\w-]+)`")
 # A path on a manual page.
@@ -64,40 +65,26 @@ PLANTED = [
 ]
 
 
-def check_planted(report):
-    with report.group("planted pages"):
-        for text, right in PLANTED:
-            found = list(absent(text, "docs", with_folders(["docs/A.md"]), with_folders(["docs/A.md", "docs/B.md", "tests/run"])))
-            report.expect_that(found == right, repr(text), f"{found} is absent, and right is {right}")
+@pytest.mark.parametrize("text, right", PLANTED)
+def test_planted(text, right):
+    found = list(absent(text, "docs", with_folders(["docs/A.md"]), with_folders(["docs/A.md", "docs/B.md", "tests/run"])))
+    assert found == right, f"{repr(text)}: {found} is absent, and right is {right}"
 
 
-def check_pages(report, places, tree):
-    there = with_folders(places)
-    for place, file in places.items():
-        if file.suffix == ".md":
-            with report.group(f"what {place} names"):
-                found = sorted(set(absent(file.read_text(), str(pathlib.PurePath(place).parent), there, tree)))
-                report.expect_that(not found, place, f"these aren't installed: {found}")
+def tree():
+    return with_folders([str(path.relative_to(TOP)) for path in files_of("**/*")])
 
 
-def check_manual(report, places, tree):
+@pytest.mark.parametrize("place", [place for place in PLACES if place.endswith(".md")])
+def test_pages(place):
+    there = with_folders([*PLACES, "LICENSE", "PROVED.txt", "THIRD-PARTY"])
+    file = PLACES[place]
+    found = sorted(set(absent(file.read_text(), str(pathlib.PurePath(place).parent), there, tree())))
+    assert not found, f"{place}: these aren't installed: {found}"
+
+
+@pytest.mark.parametrize("page", sorted(TOP.glob("man/*.[13]")), ids=lambda it: it.name)
+def test_manual(page):
     """The manual pages name documents by their place below the prefix, or by the folder docs."""
-    for page in sorted(TOP.glob("man/*.[135]")):
-        with report.group(f"what {page.name} names"):
-            words = {word.removeprefix(DOC) for word in WORD.findall(page.read_text().replace(r"\-", "-"))}
-            found = sorted(word for word in words if is_in(word, tree) and word not in places)
-            report.expect_that(not found, page.name, f"these aren't installed: {found}")
-
-
-def main():
-    report = Report()
-    places = {place.removeprefix(DOC): file for place, file in FILES.items() if place.startswith(DOC)}
-    tree = with_folders([str(path.relative_to(TOP)) for path in files_of("**/*")])
-    check_planted(report)
-    check_pages(report, places, tree)
-    check_manual(report, places, tree)
-    return report.end("installed pages")
-
-
-if __name__ == "__main__":
-    sys.exit(main())
+    words = {word.removeprefix(DOC) for word in WORD.findall(page.read_text().replace(r"\-", "-"))}
+    assert sorted(word for word in words if is_in(word, tree()) and word not in PLACES) == []

@@ -1,20 +1,17 @@
 """Compares the table of docs/RECIPES.md on what a signature covers with object files that differ in the change of a row.
 
-    python3 -m tests.pages.covered [PREFIX]
-
-PREFIX has the C library, as capi/build installs it. Without it, or without clang, nothing is compared. The lines `code`, `types` and
+The lines `code`, `types` and
 `key` of manifests say what is covered: the first two are digests of the canonical bytes.
 """
 
-import os
-import pathlib
 import re
 import subprocess
 import sys
-import tempfile
+
+import pytest
 
 from tests import TOP
-from tests.program import SECONDS, Report
+from tests.command import SECONDS
 from tests.reference.formats_page import cells
 
 # A field that is read by CO-RE, variables, a map, a license, a function, and a program. A macro chooses each.
@@ -71,30 +68,17 @@ def manifest_of(change, folder, environment):
     return [re.findall(rf"^{kind}(?: .*)? (\w+)$", text, re.MULTILINE) for kind in ("code", "types", "key")]
 
 
-def check_rows(report, table, folder, environment):
+def test_rows():
+    assert list(rows()) == list(ROWS)
+
+
+@pytest.mark.needs("clang")
+def test_changes(object_tool, tmp_path):
+    table, folder, environment = rows(), tmp_path, object_tool
     first = manifest_of({}, folder, environment)
-    report.expect_that([len(it) for it in first] == [2, 1, 1], "the first object file", f"its digests are {first}")
+    assert [len(it) for it in first] == [2, 1, 1], f"the first object file: its digests are {first}"
     for row, changes in ROWS.items():
         for change in changes:
             second = manifest_of(change, folder, environment)
             found = ["no" if before == after else "yes" for before, after in zip(first, second)]
-            report.expect_that(found == table[row], f"{row}: {change}", f"it is {found}, and the page says {table[row]}")
-
-
-def main():
-    if len(sys.argv) > 2:
-        sys.exit(__doc__)
-    report, table = Report(), rows()
-    with report.group("what a signature covers, by docs/RECIPES.md"), tempfile.TemporaryDirectory() as folder:
-        report.expect_that(list(table) == list(ROWS), "the rows", f"they are {list(table)}")
-        if not sys.argv[1:]:
-            report.skip("what a signature covers", "there is no bpfcanon-object")
-        elif not report.lacks("what a signature covers", "clang"):
-            library = str(pathlib.Path(sys.argv[1]).resolve() / "lib" / "libbpfcanon.so.0")
-            path = str(TOP / "bindings" / "python")
-            check_rows(report, table, pathlib.Path(folder), os.environ | {"BPFCANON_LIBRARY": library, "PYTHONPATH": path})
-    return report.end("what a signature covers")
-
-
-if __name__ == "__main__":
-    sys.exit(main())
+            assert found == table[row], f"{row}: {change}: it is {found}, and the page says {table[row]}"

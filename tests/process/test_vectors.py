@@ -1,28 +1,23 @@
 """Runs the built program on testdata/vectors.tsv: each row by every command that reads it, in both byte orders.
 
-    python3 -m tests.process.vectors PROGRAM
-
 testdata/README.md describes the columns. Expected results are in the file, or are those of a row for a part of the input.
 """
 
-import sys
 
-from tests.program import Program, Ran, Report
+import pytest
+
+from tests.command import Ran, refused
 from tests.reference import insn_reference
 from tests.vector_rows import ROWS, TESTDATA, data, is_bytes, rows, text
 
 EXIT = bytes.fromhex("9500000000000000")
 NO_TYPES = bytes.fromhex("9feb01001800000000000000000000000000000001000000" "00")
 # The groups in the order in which they are listed.
-GROUPS = ["base32", "base64", "atomic32", "atomic64", "divmul32", "divmul64", "packet"]
+GROUP_NAMES = ["base32", "base64", "atomic32", "atomic64", "divmul32", "divmul64", "packet"]
 
 
 def done(output):
     return Ran(0, output, b"")
-
-
-def refused(message, output=b""):
-    return Ran(1, output, message.encode() + b"\n")
 
 
 def runs_of_insns():
@@ -50,7 +45,7 @@ def runs_of_all_insns():
     yield "all", "insn-canon --to big", little, done(big)
     yield "all", "insn-show --order big", big, done(shown)
     yield "all", "insn-read", shown, done(little)
-    yield "all", "insn-groups", little, done("".join(f"{group}\n" for group in GROUPS).encode())
+    yield "all", "insn-groups", little, done("".join(f"{group}\n" for group in GROUP_NAMES).encode())
 
 
 def runs_of_faulty_insns():
@@ -117,40 +112,32 @@ def runs_of_compiled_files():
         yield name, f"insn-same --split {len(big)} --order big", big + little, done(b"same\n")
 
 
-def groups_of(program):
-    """The runs of each group, and how many belong there."""
-    return {
-        "instructions": (runs_of_insns(), 10 * ROWS["insn"]),
-        "these instructions in one file": (runs_of_all_insns(), 5),
-        "faulty instructions": (runs_of_faulty_insns(), 8 * ROWS["insn-fault"]),
-        "listings": (runs_of_listings(program), 3 * ROWS["listing"] + 2 * ROWS["listing-fault"]),
-        "BTF": (runs_of_btf(), 788),
-        "faulty BTF": (runs_of_faulty_btf(), 10 * ROWS["btf-fault"]),
-        "command lines": (runs_of_lines(), ROWS["run"]),
-        "compiled programs": (runs_of_compiled_files(), 6),
-    }
+# The runs of each group, and how many belong there.
+GROUPS = {
+    "instructions": (runs_of_insns, 10 * ROWS["insn"]),
+    "these instructions in one file": (runs_of_all_insns, 5),
+    "faulty instructions": (runs_of_faulty_insns, 8 * ROWS["insn-fault"]),
+    "BTF": (runs_of_btf, 788),
+    "faulty BTF": (runs_of_faulty_btf, 10 * ROWS["btf-fault"]),
+    "command lines": (runs_of_lines, ROWS["run"]),
+    "compiled programs": (runs_of_compiled_files, 6),
+}
 
 
-def check(program, report, names=None):
-    """Compares the runs of these groups, or of all."""
-    for name, (runs, count) in groups_of(program).items():
-        if names and name not in names:
-            continue
-        with report.group(name):
-            before = report.runs
-            for what, line, given, right in runs:
-                report.expect(f"{what} ({line})", program.run(line, given), right)
-            made = report.runs - before
-            report.expect_that(made == count, name, f"these are {made} runs, and {count} belong here")
+def wrong_runs(program, runs):
+    """Each run with another answer than that of the rows."""
+    answers = [(what, line, program.run(line, given), right) for what, line, given, right in runs]
+    return [f"{what} ({line}): {ran}, and right is {right}" for what, line, ran, right in answers if ran != right]
 
 
-def main():
-    if len(sys.argv) != 2:
-        sys.exit(__doc__)
-    report = Report()
-    check(Program(sys.argv[1]), report)
-    return report.end("vectors")
+@pytest.mark.parametrize("group", GROUPS)
+def test_rows(program, group):
+    runs, count = list(GROUPS[group][0]()), GROUPS[group][1]
+    assert len(runs) == count
+    assert wrong_runs(program, runs) == []
 
 
-if __name__ == "__main__":
-    sys.exit(main())
+def test_listings(program):
+    runs = list(runs_of_listings(program))
+    assert len(runs) == 3 * ROWS["listing"] + 2 * ROWS["listing-fault"]
+    assert wrong_runs(program, runs) == []

@@ -1,8 +1,6 @@
 """Runs the built command with each of its allocations refused in turn, by itself and with all that follow.
 
-    python3 -m tests.process.refused_memory PROGRAM REFUSE_ALLOCATION
-
-The second argument is the shared object that is built from refuse_allocation.c. What the command allocates for its arguments
+What the command allocates for its arguments
 and for clap is refused too, which no test inside the crates can do.
 
 Whatever is refused, three results are right: the one with ample memory; status 3 with `no memory`; status 3 with
@@ -11,10 +9,10 @@ insn-canon, which writes as it reads, and the first piece or nothing by a comman
 """
 
 import os
-import sys
+
+import pytest
 
 from tests import long_listings, samples
-from tests.program import Program, Report
 
 # No line needs that many allocations: a loop that gets here would not end.
 MOST_ALLOCATIONS = 2_000
@@ -96,7 +94,7 @@ def run_refused(program, shared_object, example, first, last):
     reading, writing = os.pipe()
     try:
         settings = {
-            "LD_PRELOAD": shared_object,
+            "LD_PRELOAD": str(shared_object),
             "REFUSE_FROM": str(first),
             "REFUSE_TO": str(last),
             "REFUSE_REPORT": str(writing),
@@ -118,7 +116,7 @@ def is_refusal(ran, example, first_piece):
     return ran.status == 3 and ran.message in (b"no memory\n", b"no words\n") and is_written
 
 
-def refuse_each(report, program, shared_object, example, only_one, first_piece=0):
+def refuse_each(program, shared_object, example, only_one, first_piece=0):
     """Refuses the first allocation, the second and so on, until the line ends before it; returns the messages and outputs."""
     written = set()
     what = "alone" if only_one else "and all that follow"
@@ -127,43 +125,23 @@ def refuse_each(report, program, shared_object, example, only_one, first_piece=0
         ran, was_refused = run_refused(program, shared_object, example, number, last)
         where = f"{example.name} ({example.line}), allocation {number} {what}"
         if not was_refused:
-            report.expect(f"{where}, which does not exist", ran, example.right)
+            assert ran == example.right, f"{where}, which does not exist"
             return written
         right = f"right is {example.right} or status 3 with `no memory` or `no words`"
         is_right = ran == example.right or is_refusal(ran, example, first_piece)
-        report.expect_that(is_right, where, f"it gave {ran}, and {right}")
+        assert is_right, f"{where}: it gave {ran}, and {right}"
         written |= {ran.message, ran.output}
-    report.report_wrong(f"{example.name} ({example.line}): more than {MOST_ALLOCATIONS} allocations")
-    return written
+    pytest.fail(f"{example.name} ({example.line}): more than {MOST_ALLOCATIONS} allocations")
 
 
-def main():
-    if len(sys.argv) != 3:
-        sys.exit(__doc__)
-    program, shared_object = Program(sys.argv[1]), os.path.abspath(sys.argv[2])
-    report = Report()
-    groups = {
-        "that succeed": GOOD,
-        "with many names": WITH_MANY_NAMES,
-        "with a faulty input": FAULTY,
-        "that are refused": REFUSED_LINES,
-    }
-    for name, lines in groups.items():
-        with report.group(f"memory is refused to {len(lines)} lines {name}"):
-            for example in lines:
-                for only_one in (True, False):
-                    written = refuse_each(report, program, shared_object, example, only_one)
-                    # each line allocates for the arguments of the process, and again for clap
-                    for line in {b"no words\n", b"no memory\n"} - written:
-                        report.report_wrong(f"{example.name} ({example.line}): no run wrote {line!r}")
-    with report.group("memory is refused after a piece"):
-        for example, first_piece in IN_PIECES:
-            for only_one in (True, False):
-                written = refuse_each(report, program, shared_object, example, only_one, first_piece)
-                if example.right.output[:first_piece] not in written:
-                    report.report_wrong(f"{example.name}: no run ended after the first piece")
-    return report.end("refused memory")
+@pytest.mark.parametrize("only_one", [True, False], ids=["alone", "all that follow"])
+@pytest.mark.parametrize("example", GOOD + WITH_MANY_NAMES + FAULTY + REFUSED_LINES, ids=lambda it: it.name)
+def test_refused(program, refusing, example, only_one):
+    """Each line allocates for the arguments of the process, and again for clap."""
+    assert {b"no words\n", b"no memory\n"} <= refuse_each(program, refusing, example, only_one)
 
 
-if __name__ == "__main__":
-    sys.exit(main())
+@pytest.mark.parametrize("only_one", [True, False], ids=["alone", "all that follow"])
+@pytest.mark.parametrize("example, first_piece", IN_PIECES, ids=lambda it: getattr(it, "name", ""))
+def test_refused_after_a_piece(program, refusing, example, first_piece, only_one):
+    assert example.right.output[:first_piece] in refuse_each(program, refusing, example, only_one, first_piece)

@@ -1,0 +1,153 @@
+"""Compares docs/FORMATS.md and docs/FAULTS.md with the vectors and with the built command, by what the pages themselves say.
+
+insn_reference.py and btf_reference.py check bytes by the tables of the pages. Here they check each vector, and each instruction of the
+vectors again with one of its fields changed, which is passed to the command too.
+"""
+
+import itertools
+import re
+
+from tests.command import Ran
+from tests.reference import btf_reference, insn_reference
+from tests.reference.formats_page import fitted, table
+from tests.samples import btf
+from tests.vector_rows import data, rows, text
+
+# How many 32-bit fields follow the first three of a record, and how many each item has (btf.rst section 2.2), by kind.
+WORDS = {1: 1, 3: 3, 14: 1, 17: 1}
+ITEMS = {4: 3, 5: 3, 6: 2, 13: 2, 15: 3, 19: 3}
+# What a field of an instruction is changed to.
+REGISTERS = [*range(8), 10, 11, 15]
+OFFSETS = [0, 1, -1, 8, 16, 32]
+IMMEDIATES = [0, 1, -1, 16, 32, 64, 0x40, 0xE0, 0xE1, 0xF0, 0xF1, 0x1_0000]
+
+
+# ---- instructions
+
+
+def test_insns():
+    for line, little, big, group in rows("insn"):
+        for order, code in ("little", data(little)), ("big", data(big)):
+            read, fault = insn_reference.decoded(code, order)
+            said = (insn_reference.line_of(*read), insn_reference.group_of(read[0])) if read else fault
+            assert said == (line, group), f"{line} in {order}-endian order: the page says {said}"
+        other = insn_reference.bytes_of(read[1], read[0].is_wide, "little") if read else None
+        assert other == data(little), f"{line}, turned: the page says {other}"
+    for name, little, big, pos, cause in rows("insn-fault"):
+        for order, code in ("little", data(little)), ("big", data(big)):
+            fault = insn_reference.decoded(code, order)[1]
+            assert fault == (int(pos), cause), f"{name} in {order}-endian order: the page says {fault}"
+    mnemonics = {insn_reference.mnemonic_of(form) for form in insn_reference.forms()}
+    named = {mnemonic: name for mnemonic, (name, _) in insn_reference.templates().items()}
+    assert mnemonics == set(named), f"the mnemonics: these differ: {sorted(mnemonics ^ set(named))}"
+    for form in insn_reference.forms():
+        mnemonic = insn_reference.mnemonic_of(form)
+        name = named.get(mnemonic, "")
+        assert form.name in name.split(", "), f"{mnemonic}: it is in the row {name}, and not {form.name}"
+
+
+def changed_insns():
+    """Each instruction of the vectors, and that with one field changed."""
+    found = {}
+    for _, little, _, _ in rows("insn"):
+        form, insn = insn_reference.decoded(data(little), "little")[0]
+        changes = [("opcode", insn.opcode ^ 1 << bit) for bit in range(8)]
+        changes += [(field, value) for field in ("dst", "src") for value in REGISTERS]
+        changes += [("offset", value) for value in OFFSETS] + [("imm", value) for value in IMMEDIATES]
+        changes += [(field, value) for field in ("reserved", "next_imm") for value in (0, 1, -1) if form.is_wide]
+        for field, value in changes:
+            code = insn_reference.bytes_of(insn._replace(**{field: value}), form.is_wide, "little")
+            found.setdefault(code)
+    return list(found)
+
+
+def test_changed_insns(program):
+    accepted, shown = [], []
+    for code in changed_insns():
+        read, fault = insn_reference.decoded(code, "little")
+        # a changed wide load may be two instructions: the page is asked about the first
+        if read and read[0].is_wide == (len(code) == 16):
+            accepted.append(code)
+            shown.append(insn_reference.line_of(*read) + "\n")
+        elif fault:
+            right = Ran(1, b"", f"fault {fault[0]} {fault[1]}\n".encode())
+            assert program.run("insn-groups", code) == right, code.hex()
+    ran = program.run("insn-show", b"".join(accepted))
+    lines = ran.output.decode().splitlines(keepends=True)
+    assert ran.status == 0 and len(lines) == len(shown), f"insn-show: it gave {ran}"
+    for code, got, right in zip(accepted, lines, shown):
+        assert got == right, f"{code.hex()}: it is shown as {got!r}, and the page says {right!r}"
+
+
+def test_groups(program):
+    """Each form by itself, to see the groups that its group includes."""
+    included = insn_reference.included()
+    for _, little, _, _ in rows("insn"):
+        form, _ = insn_reference.decoded(data(little), "little")[0]
+        right = sorted(included[insn_reference.group_of(form)])
+        ran = program.run("insn-groups", data(little))
+        assert sorted(ran.output.decode().split()) == right, f"{little}: it needs {ran.output}, and the page says {right}"
+
+
+def test_not_covered(program):
+    """The rows of docs/SCOPE.md on instructions: their opcodes, immediates and offsets are in brackets."""
+    for what, refusal in table("Unsupported inputs", "Input", "Refusal"):
+        found = re.search(r"\((?:(imm) )?((?:[0-9a-f]{2,3}(?:, )?)+)(?: with offset (\d+))?\)", what)
+        codes = found[2].split(", ") if found else re.findall(r"\(([0-9a-f]{2})\)", what)
+        codes = re.findall(r"\(([0-9a-f]{2})\)", what) if found and not found[1] and not found[3] and ", " not in found[2] else codes
+        for code in codes:
+            opcode, imm = (0xDB, int(code, 16)) if found[1] else (int(code, 16), 0)
+            insn = insn_reference.Insn(opcode, 1, 1, int(found[3] or 0), imm)
+            given = insn_reference.bytes_of(insn, False, "little")
+            cause = fitted(refusal, r"`(\w+)`")[0]
+            fault = insn_reference.decoded(given, "little")[1]
+            assert fault is not None and fault[1] == cause, f"{what}: {code}: the tables say {fault}"
+            message = f"fault {fault[0]} {cause}\n".encode() if fault else b""
+            assert program.run("insn-canon", given) == Ran(1, b"", message), f"{what}: {code}"
+
+
+# ---- BTF
+
+
+def test_btf():
+    for name, file, little, big, count, shown in rows("btf"):
+        for given in {*map(data, (file, little, big))}:
+            fault = btf_reference.first_fault(given)
+            said = fault or (btf_reference.canonical(given), btf_reference.canonical(given, ">"))
+            assert said == (data(little), data(big)), f"{name}: the page says {said}"
+            lines = None if fault else btf_reference.lines(given)
+            assert lines == text(shown), f"{name}, its text: the page says {lines}"
+            types = None if fault else btf_reference.count(given)
+            assert types == int(count), f"{name}, its types: the page says {types}"
+    for name, little, big, pos, cause in rows("btf-fault"):
+        for given in data(little), data(big):
+            fault = btf_reference.first_fault(given)
+            assert fault == (int(pos), cause), f"{name}: the page says {fault}"
+
+
+# Types 1 to 7, one of each kind that another type may need: INT, FUNC_PROTO with a parameter, STRUCT with a member, FUNC, VAR, TYPEDEF,
+# UNION with a member. The name "a" is at offset 1 of the string section.
+TARGETS = [1, 0x0100_0000, 4, 32, 0, 0x0D00_0001, 1, 1, 1, 1, 0x0400_0001, 4, 1, 1, 0]
+TARGETS += [1, 0x0C00_0000, 2, 1, 0x0E00_0000, 1, 0, 1, 0x0800_0000, 1, 1, 0x0500_0001, 4, 1, 1, 0]
+
+
+def tried_records():
+    """Records of each kind and of a number below and above them, with and without a name, kind_flag and items, and with each size or type."""
+    for kind, name, vlen in itertools.product(range(21), range(2), range(3)):
+        heads = [(0, third) for third in range(10)] + [(1, 4)]
+        for flag, third in heads:
+            # zeros after it, as many as a good record has
+            yield [name, flag << 31 | kind << 24 | vlen, third] + [0] * (WORDS.get(kind, 0) + vlen * ITEMS.get(kind, 0))
+    # tags on parts of each type, INTs with each bit and each encoding, and bit-fields of INTs with each number of bits
+    yield from ([1, 0x1100_0000, target, part] for target in range(10) for part in (0, 1, 2, 0xFFFF_FFFF))
+    yield from ([1, 0x0100_0000, 16, word] for word in [*(1 << bit for bit in range(32)), *(code << 24 for code in range(16)), 128, 129])
+    for word in [*range(130), 1 << 16 | 8]:
+        yield [1, 0x0100_0000, 16, word, 1, 0x8400_0001, 16, 0, 8, 1 << 24]
+
+
+def test_tried_records(program):
+    for words in tried_records():
+        given = btf("little", TARGETS + words, b"\0a\0")
+        fault = btf_reference.first_fault(given)
+        right = Ran(1, b"", f"fault {fault[0]} {fault[1]}\n".encode()) if fault else Ran(0, btf_reference.lines(given), b"")
+        assert program.run("btf-show", given) == right, " ".join(f"{word:x}" for word in words)

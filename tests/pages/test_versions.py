@@ -1,0 +1,112 @@
+"""Compares what the pages say of versions with what has them, and the table of what a version may change with the rule above it.
+
+The soname and the symbols of the built library are compared with the header by tests/c_interface/test_installed.py, and here with the pages.
+"""
+
+import re
+
+from tests import TOP
+from tests.pages.test_links import PAGES
+
+from tests.reference.formats_page import cells
+
+HEADER, EXPORTS = ((TOP / "capi" / name).read_text() for name in ("bpfcanon.h", "exports.map"))
+VERSION = re.search(r'^#define BPFCANON_VERSION "(.*)"$', HEADER, re.MULTILINE)[1]
+MAJOR = VERSION.partition(".")[0]
+STABILITY = TOP / "docs" / "STABILITY.md"
+READ = [*PAGES, *sorted([*TOP.glob("man/*.[135]"), *TOP.glob("packaging/README.*")])]
+
+
+def joined(path):
+    """A page with its lines joined, and a manual page without its escapes."""
+    return " ".join(path.read_text().replace(r"\-", "-").split())
+
+
+def found_on_pages(pattern):
+    """What a pattern finds, with the page."""
+    return [(path.relative_to(TOP).as_posix(), it) for path in READ for it in re.findall(pattern, joined(path))]
+
+
+def expect_all(what, found, right, least):
+    """Each found value is right, and each of these pages has one."""
+    wrong = [it for it in found if it[1] != right]
+    missing = set(least) - {page for page, _ in found}
+    assert not wrong and not missing, f"{what}: it is {right}: {wrong} differ, and {sorted(missing)} don't say so"
+
+
+def test_library():
+    sonames = found_on_pages(r"libbpfcanon\.so\.(\d+)\b")
+    expect_all("the soname's number", sonames, MAJOR, ["docs/STABILITY.md", "CHANGELOG.md", "bindings/python/README.md"])
+    nodes = re.findall(r"^(BPFCANON_[\d.]+) \{$", EXPORTS, re.MULTILINE)
+    symbols = found_on_pages(r"BPFCANON_\d+\.\d+")
+    wrong = [it for it in symbols if it[1] not in nodes]
+    assert symbols and not wrong, f"the symbols: capi/exports.map has {nodes}, and {wrong} differ"
+    files = found_on_pages(r"\bbpfcanon(?:-go|-source|-vectors)?-(\d+\.\d+\.\d+)\b")
+    expect_all("the version of files", files, VERSION, ["README.md", "bindings/go/README.md", "bindings/rust/README.md"])
+
+
+def test_number():
+    """The example of the version as one number is what the macro makes of it."""
+    factors = re.search(r"\(BPFCANON_VERSION_MAJOR \* (\d+) \+ BPFCANON_VERSION_MINOR \* (\d+) \+ BPFCANON_VERSION_PATCH\)", HEADER)
+    right = int(factors[1]) + 2 * int(factors[2]) + 3 if factors else 0
+    for name in "capi/bpfcanon.h", "man/bpfcanon.3":
+        found = re.findall(r"([\d,]+) is 1\.2\.3", joined(TOP / name))
+        assert [int(it.replace(",", "")) for it in found] == [right], f"{name}: it says {found}, and right is {right}"
+
+
+def test_forms():
+    """The numbers of the canonical form and of the lines of manifests, on STABILITY and where they are defined."""
+    page = joined(STABILITY)
+    formats = re.findall(r"\*\*The canonical form is form (\d+)\.\*\*", joined(TOP / "docs" / "FORMATS.md"))
+    lines = re.findall(r"^FORM = (\d+)", (TOP / "bindings/python/bpfcanon/objects/keys.py").read_text(), re.MULTILINE)
+    for row, numbers in ("canonical form", formats), ("lines of manifests and keys of object files", lines):
+        said = re.findall(rf"\| {row} \| form (\d+) in all of (\d+)\.x", page)
+        assert said == [(it, MAJOR) for it in numbers] and said, f"{row}: it is {said}, and right is {numbers} in {MAJOR}.x"
+
+
+def test_languages():
+    """The oldest versions that the packages declare are those of all pages."""
+    declared = {
+        "Go": ("bindings/go/go.mod", r"^go (\S+)$"),
+        "Rust": ("bindings/rust/Cargo.toml", r'^rust-version = "(.*)"$'),
+        "Python": ("bindings/python/pyproject.toml", r'^requires-python = ">=(.*)"$'),
+    }
+    for language, (file, pattern) in declared.items():
+        (right,) = re.findall(pattern, (TOP / file).read_text(), re.MULTILINE)
+        found = found_on_pages(rf"\b{language} (\d[\d.]*\d) or later")
+        expect_all(language, found, right, ["packaging/README.release", f"bindings/{language.lower()}/README.md"])
+        if language == "Python":
+            control = re.findall(r"^X-Python3-Version: >= (.*)$", (TOP / "debian/control").read_text(), re.MULTILINE)
+            assert control == [right], f"debian/control: it has {control}"
+        if language == "Rust":
+            needed = re.findall(r"rustc (\d[\d.]*\d) or later", joined(TOP / "docs" / "BUILDING.md"))
+            assert needed == [right], f"docs/BUILDING.md: it has {needed}"
+
+
+# The rule: what works with a version works with each later one of the same major version. So a patch or a minor version adds at most.
+RULE = "0.2.0 breaks nothing that works with 0.1.0."
+ADDS = {"none", "more", "corrected"}
+# What nobody relies on may change at any time, and what keys are made of never changes before the next major version.
+FREE = ["speed, memory, how the code is built"]
+FIXED = ["canonical bytes, listings, type listings", "lines of manifests, keys of object files"]
+KEEPS = ["The canonical bytes of an input never change in form 1.", "An input that is accepted stays accepted.", RULE]
+
+
+def test_rule():
+    """Each row of the table allows no version what the rule forbids it, and a greater version at least as much as a smaller one."""
+    page = joined(STABILITY)
+    for sentence in KEEPS:
+        assert page.count(sentence) == 1, f"{sentence}: the page doesn't say so once"
+    part = STABILITY.read_text().partition("## What a version may change\n")[2].partition("\n## ")[0]
+    heads, _, *rows = [cells(line) for line in part.splitlines() if line.startswith("|")]
+    assert heads == ["", "Patch", "Minor", "Major"], f"the columns: they are {heads}"
+    assert {*FREE, *FIXED} <= {row[0] for row in rows}, f"the rows: they are {[row[0] for row in rows]}"
+    for what, patch, minor, major in rows:
+        smaller = [re.split(r"[ ,]", it)[0] for it in (patch, minor)]
+        if what in FREE:
+            is_right = smaller == ["any", "any"]
+        elif what in FIXED:
+            is_right = smaller == ["none", "none"]
+        else:
+            is_right = smaller[0] in ("none", "corrected") and smaller[1] in ADDS and (smaller[0] == "none" or smaller[1] == smaller[0])
+        assert is_right and major == "any", f"{what}: it may change: {patch}; {minor}; {major}"
