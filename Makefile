@@ -1,37 +1,48 @@
-# make            the command and the archive of the proved calls, both proved (15 to 25 minutes), and the C library
-# make try        the command without proofs: out/try/bpfcanon, in a minute
-# make check      all proofs and tests; make check-quick what needs neither of them, in seconds
-# make install    what is built, into PREFIX (and DESTDIR), for LIBDIR lib; make uninstall
-# make tools      what the tests need from Debian, as root; .ci/run is `CI=true make tools check`
-# make dist       the files of a release, in out/dist
+# make            the command and the C library, proved and built (15 to 25 minutes at first), in out/prefix
+# make demo       the main job on an example, unproved, in a minute; make demo-proved proves it first
+# make check      all proofs and tests (60 to 120 minutes); make check-quick what needs seconds and no proof; make check-tests the tests of
+#                 what is built
+# make install    what is built, into PREFIX (and DESTDIR), with libraries in LIBDIR; make uninstall removes it
+# make tools      what the tests need from Debian, as root. CI is `CI=true make tools check` (.ci/run): a test that is skipped for want of
+#                 a tool then fails if apt has the tool
+# make dist       the files of a release, in out/release: ./release --help
+SHELL = /bin/bash
+MAKEFLAGS += --no-print-directory
+.SHELLFLAGS = -o pipefail -c
 PREFIX ?= /usr/local
 LIBDIR ?= lib
-PYTHON ?= $(shell tests/python_with pytest)
-PYTEST = $(PYTHON) -m pytest --prefix=$(CURDIR)/out/prefix
+PYTHON = $(shell tests/python_with pytest xdist markdown_it elftools || tests/python_with pytest xdist markdown_it || echo python3)
+PYTEST = $(PYTHON) -m pytest -n $(WORKERS) --dist loadgroup --durations=5
 WORKERS ?= $(shell nproc)
 COMMAND = crates/bpfcanon/out/bpfcanon
 ARCHIVE = crates/bpfcanon_c/out/libbpfcanon_c.a
 LIBRARY = out/prefix/include/bpfcanon.h
 VERSION := $(shell sed -n 's/^.define BPFCANON_VERSION "\(.*\)"$$/\1/p' capi/bpfcanon.h)
+PACKAGES = $(shell sed 's/^\#.*//; s/ .*//' tests/packages.txt)
 export SOURCE_DATE_EPOCH ?= $(shell git log -1 --format=%ct)
 export PYTHONDONTWRITEBYTECODE = 1
+export RT_JOBS ?= $(WORKERS)
+$(shell mkdir -p out)
 
-.PHONY: all try prove check check-quick check-objects lint tools install uninstall dist wheel deb clean
+.PHONY: all demo demo-proved check check-quick check-tests check-c check-release prove record release-objects lint tools install uninstall
+.PHONY: dist wheel deb clean FORCE
 all: $(COMMAND) $(LIBRARY)
 
 # --- what Rattle builds: it knows itself what is new
 $(COMMAND): FORCE
 	cd crates/bpfcanon && rt run < /dev/null
 $(ARCHIVE): FORCE
-	capi/archive --keep
+	capi/archive --keep 2>&1 | tee -a out/archive.log
 FORCE:
 
-try:
-	cd crates/bpfcanon && rt try -- $(ARGS)
+demo demo-proved: DATA = ../../testdata/packet_filter
+demo demo-proved:
+	@cd crates/bpfcanon && rt $(if $(filter demo,$@),try,run) -- insn-canon --order big < $(DATA).big.bin | cmp - $(DATA).little.bin && \
+	echo 'right: the canonical bytes of the big-endian program are those of the little-endian one$(if $(filter demo,$@),. Nothing was proved)'
 
 # The command isn't a prerequisite: the sources of a release have the archive alone.
 out/meson/build.ninja:
-	meson setup out/meson
+	meson setup out/meson -Dcommand=false
 INSTALL = meson configure out/meson --prefix $(1) --libdir $(2) -Dcommand=$(if $(wildcard $(COMMAND)),true,false) && meson install -C out/meson --quiet
 $(LIBRARY): $(ARCHIVE) | out/meson/build.ninja
 	export DESTDIR= && $(call INSTALL,$(CURDIR)/out/prefix,lib)
@@ -41,37 +52,64 @@ install: $(LIBRARY)
 uninstall:
 	ninja -C out/meson uninstall
 
-# --- tests
-check: check-quick prove all
-	$(PYTEST) -n $(WORKERS) --dist loadgroup -m "not quick"
-	cd bindings/go && go test ./...
-	cd bindings/rust && cargo test
+# --- tests. The parts end with the first that fails; then the seconds of each, and what the runners counted
+PARTS = check-quick prove check-tests record check-release
+check: | $(filter tools,$(MAKECMDGOALS))
+	@rm -f out/*.log out/seconds; status=0; for part in $(PARTS); do began=$$SECONDS; $(MAKE) $$part || status=$$?; \
+	echo "$$part: $$((SECONDS - began)) s" >> out/seconds; [ $$status = 0 ] || break; done; cat out/seconds; \
+	grep -haE 'NOT REFUSED|BAD EDIT|NOT PROVED|tests FAILED|had not ended|^(rt: )?FAILED' out/rt_ci.log; \
+	grep -haE '[0-9]+ passed' out/rt_ci.log out/quick.log out/tests.log | sed 's/^=* //; s/ =*$$//' > out/summary; cat out/summary; exit $$status
 
 check-quick: lint
-	$(PYTEST) -q -m quick
+	$(PYTHON) -m pytest -q -m quick | tee out/quick.log
 
-check-objects: $(LIBRARY)
-	$(PYTEST) -n $(WORKERS) -m objects
-
-# A mutation that can't be applied shows nothing, and rt ci lets it pass.
+# A mutation that can't be applied shows nothing, and rt ci lets it pass. After its run rt ci puts the libraries of earlier checks back in
+# place of those that it proved, which the archive is made over.
 prove:
-	rt ci 2>&1 | tee out/rt_ci; test $${PIPESTATUS[0]} -eq 0 && ! grep -qa 'BAD EDIT' out/rt_ci
-prove: SHELL = /bin/bash
+	rm -rf out/PROVED.txt crates/*/out/rlib crates/bpfcanon_c/out/libbpfcanon_c*.a crates/bpfcanon/out/release
+	for crate in bpfcanon bpfcanon_c; do capi/sources $$crate; done > out/sources
+	rt ci 2>&1 | tee out/rt_ci.log && ! grep -qa 'BAD EDIT' out/rt_ci.log
+
+# The objects of the release are made meanwhile.
+check-tests: $(LIBRARY)
+	$(MAKE) -j 2 --output-sync=target release-objects check-c check-built
+check-built: | check-c
+	$(PYTEST) -m "not quick and not release" --prefix=$(CURDIR)/out/prefix | tee out/tests.log
+release-objects: $(ARCHIVE)
+	@[ "$$(cat out/rt_ci.log 2> out/found)" = "" ] || { capi/archive --keep aarch64 && packaging/program.py --keep; } 2>&1 | tee out/objects.log
+
+# The calls from C: as they are, under valgrind, and under sanitizers.
+check-c: $(LIBRARY)
+	meson test -C out/meson --quiet --print-errorlogs
+	! command -v valgrind > out/found || meson test -C out/meson --quiet --print-errorlogs --setup valgrind --suite small
+	[ -d out/sanitized ] || meson setup out/sanitized -Dcommand=false -Db_sanitize=address,undefined -Db_lundef=false
+	meson test -C out/sanitized --quiet --print-errorlogs
+	[ -d out/thread ] || meson setup out/thread -Dcommand=false -Db_sanitize=thread -Db_lundef=false
+	meson test -C out/thread --quiet --print-errorlogs threads
+
+# What was proved, and the hashes of what was built of it, unless the sources have changed since. A release needs this.
+record:
+	for crate in bpfcanon bpfcanon_c; do capi/sources $$crate; done | cmp - out/sources
+	$(PYTHON) packaging/proved.py out/rt_ci.log out/archive.log out/objects.log > out/PROVED.txt || { rm out/PROVED.txt; exit 1; }
+check-release:
+	tests/release
 
 # A package that this version of Debian doesn't have is left out.
 tools:
-	apt-get -q update
-	apt-get -qy --no-install-recommends install $$(apt-cache madison $$(sed 's/^#.*//; s/ .*//' tests/packages.txt) | awk '{print $$1}' | sort -u)
+	@dpkg -s $(PACKAGES) > out/found 2>&1 || { apt-get -q update && apt-get -qy --no-install-recommends install \
+	$$(apt-cache madison $(PACKAGES) | awk '{print $$1}' | sort -u); } || echo "apt doesn't answer: what needs its tools is skipped"
 
 lint:
 	$(PYTHON) -m compileall -q tests bindings/python packaging
 	for it in $$(git ls-files -s | sed -n 's/^100755.*\t//p'); do case $$(head -1 $$it) in *bash*|*/sh) bash -n $$it || exit 1;; esac; done
-	test -z "$$(gofmt -l bindings/go | tee /dev/stderr)"
-	rustfmt --edition 2021 --check $$(git ls-files 'bindings/rust/*.rs')
-	cd bindings/python && mypy
-	codespell -q 3 -L crate README.md docs
+	! command -v gofmt > out/found || test -z "$$(gofmt -l bindings/go tests | tee /dev/stderr)"
+	! command -v rustfmt > out/found || rustfmt --edition 2021 --config-path bindings/rust --check $$(git ls-files 'bindings/rust/*.rs')
+	! command -v mypy > out/found || (cd bindings/python && mypy --cache-dir=$(CURDIR)/out/mypy)
+	! command -v codespell > out/found || codespell -q 3 -L crate README.md docs
 
 # --- a release
+dist:
+	./release
 WHEEL = out/wheel
 wheel: $(LIBRARY)
 	rm -rf $(WHEEL) && mkdir -p $(WHEEL) && cp -r bindings/python/. $(WHEEL) && mkdir $(WHEEL)/share
@@ -79,13 +117,10 @@ wheel: $(LIBRARY)
 	cp out/prefix/lib/libbpfcanon.so.$(VERSION) $(WHEEL)/bpfcanon/libbpfcanon.so.0
 	cp $(firstword $(wildcard LICENSE) packaging/NO-LICENSE) $(WHEEL)/LICENSE
 	cd $(WHEEL) && $(PYTHON) -m build -nw -C--global-option=bdist_wheel -C--global-option=--plat-name=manylinux2014_x86_64 -o ../dist
-deb: all
+deb:
 	rm -rf out/deb && mkdir -p out/dist && git archive --prefix=out/deb/tree/ HEAD | tar x
 	cp --parents $(COMMAND) $(ARCHIVE) $(wildcard THIRD-PARTY PROVED.txt) out/deb/tree
 	cd out/deb/tree && PATH=/usr/sbin:/usr/bin:/sbin:/bin DEB_BUILD_OPTIONS="nocheck noautodbgsym" dpkg-buildpackage -b -us -uc
 	mv out/deb/*.deb out/dist
-dist: wheel deb
-	./release out/dist
-	cd out/dist && sha256sum * > SHA256SUMS
 clean:
 	rm -rf out

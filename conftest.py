@@ -1,6 +1,7 @@
 """The built command and the C library as fixtures, tools that a test needs, and the marks by which tests are chosen."""
 
 import ast
+import importlib
 import inspect
 import os
 import pathlib
@@ -27,14 +28,15 @@ def pytest_addoption(parser):
 
 
 def compares(function):
-    """Whether a test has an assertion: without one it would pass without a word."""
-    return any(isinstance(it, ast.Assert) for it in ast.walk(ast.parse(textwrap.dedent(inspect.getsource(function)))))
+    """Whether a test, or a function of its module that it calls, has an assertion: without one it would pass without a word."""
+    nodes = [*ast.walk(ast.parse(textwrap.dedent(inspect.getsource(function))))]
+    called = [function.__globals__.get(it.id) for it in nodes if isinstance(it, ast.Name) and it.id != function.__name__]
+    own = [it for it in called if inspect.isfunction(it) and it.__module__ == function.__module__]
+    return any(isinstance(it, ast.Assert) for it in nodes) or any(map(compares, own))
 
 
 def pytest_collection_modifyitems(items):
     for item in items:
-        if isinstance(item, pytest.Function) and not compares(item.function):
-            raise pytest.UsageError(f"{item.nodeid} compares nothing")
         used = {"program", "prefix"} & set(getattr(item, "fixturenames", ["program"]))
         for fixture, mark in ("program", "command"), ("prefix", "library"):
             if fixture in used:
@@ -44,6 +46,8 @@ def pytest_collection_modifyitems(items):
 
 
 def pytest_runtest_setup(item):
+    if isinstance(item, pytest.Function) and TOP / "tests" in item.path.parents and not compares(item.function):
+        pytest.fail("it compares nothing", pytrace=False)
     need(*(tool for mark in item.iter_markers("needs") for tool in mark.args))
 
 
@@ -95,3 +99,11 @@ def object_tool(prefix, tmp_path_factory):
     tool.write_text(f'#!/bin/sh\nexec {sys.executable} -m bpfcanon.objects "$@"\n')
     tool.chmod(0o755)
     return os.environ | own | {"PATH": f"{tool.parent}:{os.environ['PATH']}"}
+
+
+@pytest.fixture(scope="session")
+def bpfcanon(prefix):
+    """The package for Python, over the C library."""
+    os.environ["BPFCANON_LIBRARY"] = f"{prefix}/lib/libbpfcanon.so.0"
+    sys.path.insert(0, str(TOP / "bindings" / "python"))
+    return importlib.import_module("bpfcanon")

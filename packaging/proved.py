@@ -1,9 +1,9 @@
-"""What ./verify recorded of the program and the archives that it passed: out/PROVED.txt.
+"""What make check recorded of the program and the archives that it passed: out/PROVED.txt.
 
 usage: packaging/proved.py LOG..
 
 Prints the record: the hashes of the sources of the program and the archives, and those of the files that were built from them, the kit,
-and the verdicts, which are in the files LOG. verify calls it once all parts have passed.
+and the verdicts, which are in the files LOG. make record calls it once all parts have passed.
 """
 
 import hashlib
@@ -14,9 +14,9 @@ import sys
 from tree import ARCHIVE, ARM_ARCHIVE, MADE_BY, OBJECT, PROGRAM, RECORD, TOP, Refused, run
 
 BUILT = [PROGRAM, OBJECT, ARCHIVE, ARM_ARCHIVE]
-UNVERIFIED = "Not verified: these files were made from a tree that ./verify has not passed.\n"
+UNVERIFIED = "Not verified: these files were made from a tree that make check has not passed.\n"
 MEANING = """\
-Passed by ./verify. A line with logic=proved is a verdict of the prover: each function of the crate
+Passed by make check. A line with logic=proved is a verdict of the prover: each function of the crate
 meets its contract. The lines above it that end in "reached" name the functions of C whose contracts
 it assumes (docs/TRUST.md of the sources). The program and the archives of a release are compiled
 from these sources for x86-64 (target=x86_64-unknown-linux-gnu), and the C library for 64-bit ARM
@@ -54,14 +54,14 @@ def check_object():
 
 
 def check():
-    """Raises if what is built isn't what ./verify passed. Returns the record."""
+    """Raises if what is built isn't what make check passed. Returns the record."""
     text = RECORD.read_text()
     lines = text.splitlines()
     if not set(sources()) <= set(lines):
-        raise Refused("the sources are not those that ./verify passed; run it again")
+        raise Refused("the sources are not those that make check passed; run it again")
     for line in sums(it for it in BUILT if it.is_file()):
         if line not in lines:
-            raise Refused(f"{line.split()[1]} is not the one that ./verify passed; run it again")
+            raise Refused(f"{line.split()[1]} is not the one that make check passed; run it again")
     return text
 
 

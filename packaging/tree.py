@@ -14,13 +14,13 @@ PROGRAM = TOP / "crates" / "bpfcanon" / "out" / "bpfcanon"
 OBJECT = TOP / "crates" / "bpfcanon" / "out" / "release" / "bpfcanon.o"
 ARCHIVE = TOP / "crates" / "bpfcanon_c" / "out" / "libbpfcanon_c.a"
 ARM_ARCHIVE = ARCHIVE.with_name("libbpfcanon_c.aarch64.a")
-# What ./verify passed (packaging/proved.py).
+# What make check passed (packaging/proved.py).
 RECORD = TOP / "out" / "PROVED.txt"
 MADE_BY = {
-    OBJECT: "./verify or packaging/program.py",
-    ARCHIVE: "./verify or capi/archive",
-    ARM_ARCHIVE: "./verify or capi/archive aarch64",
-    RECORD: "./verify",
+    OBJECT: "make check or packaging/program.py",
+    ARCHIVE: "make check or capi/archive",
+    ARM_ARCHIVE: "make check or capi/archive aarch64",
+    RECORD: "make check",
 }
 HEADER = (TOP / "capi" / "bpfcanon.h").read_text()
 VERSION = re.search(r'^#define BPFCANON_VERSION "(.*)"$', HEADER, re.MULTILINE)[1]

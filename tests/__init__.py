@@ -4,12 +4,10 @@
     pages/        compare the pages with the sources, and run what they show
     sources/      read the sources
     reference/    modules, and no tests: readers of the tables of docs/FORMATS.md and docs/FAULTS.md, and checkers made of them
-    of_tests/     readers of the vectors in each language, over wrong vectors and wrong answers
+    languages/    the packages for Go, Rust and Python, and their readers of the vectors, over wrong vectors and wrong answers
     c_interface/  the C library
     objects/      compare keys of object files with what libbpf loads, and those of Go with those of Python
     released/     the parts of tests/release, which uses the files of a release
-
-A test is run as a module from the top of the repository: python3 -m tests.process.limits PROGRAM.
 """
 
 import pathlib

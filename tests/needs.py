@@ -16,6 +16,8 @@ FILES = {
     "python3-distributed": f"{MODULES}/distributed",
     "python3-yaml": f"{MODULES}/yaml",
     "elftools": f"{MODULES}/elftools",
+    "setuptools": f"{MODULES}/setuptools",
+    "wheel": f"{MODULES}/wheel",
     "libbpf": "/usr/include/bpf/btf.h",
     "github.com/cilium/ebpf": f"{GOCODE}/src/github.com/cilium/ebpf",
     "librust-object-dev": f"{CRATES}/object-*",

@@ -19,7 +19,7 @@ MESON = (TOP / "meson.build").read_text()
 PAGES = re.search(r"^foreach page : \[(.*)\]$", MESON, re.MULTILINE)[1].replace("'", "").split(", ")
 PLACES = {name: TOP / name for name in ["README.md", "CHANGELOG.md", "SECURITY.md", *(f"docs/{page}.md" for page in PAGES)]}
 PLACES |= {name: TOP / name for name in re.findall(r"'((?:recipes|testdata)/\w+\.c)'", MESON)}
-# A name in code that may be a path: it has a slash or an ending, for example `./verify` and `crates.txt`.
+# A name in code that may be a path: it has a slash or an ending, for example `./install.sh` and `crates.txt`.
 PATH = re.compile(r"`(?:\./)?([\w.*-]+/[\w./*-]*|\w[\w.*-]*\.[a-z]+|(?<=/)[\w-]+)`")
 # A path on a manual page.
 WORD = re.compile(r"(?<![\w/])(?:[\w-]+/)*[\w-]+\.(?:md|tsv|rt|antt|py)\b")

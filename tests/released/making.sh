@@ -1,7 +1,7 @@
 # shellcheck shell=bash
 # tests/release: ./release itself, in another clone, and what it refuses.
 
-# What ./verify has recorded allows a release; otherwise the built files are used as they are.
+# What make check has recorded allows a release; otherwise the built files are used as they are.
 if [ -f "$top/out/PROVED.txt" ]; then how=(--partial); else how=(--partial --unverified); fi
 clone="$work/other place/tree"
 built=(crates/bpfcanon/out/bpfcanon crates/bpfcanon/out/release/{bpfcanon.o,sources.sha256})
@@ -24,7 +24,7 @@ same_bytes() (
 )
 
 # docs/TRUST.md has the verdict and the functions of C that are in the record.
-trust_is_recorded() { python pages.trust --record "$out/PROVED.txt"; }
+trust_is_recorded() { cp "$out/PROVED.txt" "$top/out/" && cd "$top" && "$(tests/python_with pytest markdown_it)" -m pytest -q tests/pages/test_trust.py -k record; }
 
 sums_are_right() ( cd "$out" && sha256sum -c --quiet SHA256SUMS && [ "$(wc -l <SHA256SUMS)" -eq "$(($(ls | wc -l) - 1))" ] )
 
@@ -50,11 +50,11 @@ refuses_to_release() (
     refuses --partial bpfcanon.o libbpfcanon_c.a out/PROVED.txt || exit 1
     copy_built && mkdir -p out || exit 1
     echo "another record" >out/PROVED.txt
-    refuses --partial "the sources are not those that ./verify passed" || exit 1
+    refuses --partial "the sources are not those that make check passed" || exit 1
     mapfile -t files < <(ls "${built[@]}" 2>"$work/found" | grep -v 'sources\.sha256')
     for file in "${files[@]}"; do
         { sources bpfcanon && sources bpfcanon_c && sha256sum "${files[@]}" | grep -v "  $file\$"; } >out/PROVED.txt
-        refuses --partial "$file is not the one that ./verify passed" || exit 1
+        refuses --partial "$file is not the one that make check passed" || exit 1
     done
     echo >>README.md
     refuses "--partial --unverified" "README.md is not as it was committed" || exit 1

@@ -1,18 +1,17 @@
 """Compares the lengths that the comments of bpfcanon.h state with what the calls of the shared library need and leave, and bpfcanon(3) too.
 
-    lengths.py LIBRARY
-
 Callers copy these numbers into their programs. Each is worked out here from inputs that need the most.
 """
 
 import ctypes
 import re
 import struct
-import sys
+
+import pytest
 
 from tests import TOP
-from tests.c_interface.records import Answer, Insn
-from tests.program import Report
+from tests.c_interface.test_records import Answer, Insn
+
 
 HEADER = (TOP / "capi" / "bpfcanon.h").read_text()
 MANUAL = re.sub(r"\n(?:\.I[RB]? )?", " ", (TOP / "man" / "bpfcanon.3").read_text())
@@ -110,21 +109,18 @@ def stated(sentence, text):
     return WORDS.get(found[1], found[1]) if found else None
 
 
-def main():
-    if len(sys.argv) != 2:
-        sys.exit(__doc__)
-    report, library = Report(), Library(sys.argv[1])
-    with report.group("lengths in the comments of bpfcanon.h, and in bpfcanon(3)"):
-        for call, of_header, of_manual, work_out in STATED:
-            right = str(work_out(library))
-            found = stated(of_header, comment_of(call)), stated(of_manual, MANUAL)
-            report.expect_that(found == (right, right), call, f"they state {found}, and right is {right}")
-        longest = re.search(r"/\* The longest valid BTF: a (\S+)-byte header, (\d+) MiB of types, (\d+) MiB of strings\. \*/", HEADER)
-        header, *sections = (int(it.replace(",", "")) for it in longest.groups())
-        right = re.search(r"^#define BPFCANON_BTF_MAX (\d+)$", HEADER, re.MULTILINE)[1]
-        report.expect_that(header + (sum(sections) << 20) == int(right), "BPFCANON_BTF_MAX", f"it is {right}")
-    return report.end("lengths")
+@pytest.fixture(scope="module")
+def library(prefix):
+    return Library(f"{prefix}/lib/libbpfcanon.so.0")
 
 
-if __name__ == "__main__":
-    sys.exit(main())
+@pytest.mark.parametrize("call, of_header, of_manual, work_out", STATED, ids=[row[0] for row in STATED])
+def test_length(library, call, of_header, of_manual, work_out):
+    right = str(work_out(library))
+    assert (stated(of_header, comment_of(call)), stated(of_manual, MANUAL)) == (right, right)
+
+
+def test_longest():
+    longest = re.search(r"/\* The longest valid BTF: a (\S+)-byte header, (\d+) MiB of types, (\d+) MiB of strings\. \*/", HEADER)
+    header, *sections = (int(it.replace(",", "")) for it in longest.groups())
+    assert header + (sum(sections) << 20) == int(re.search(r"^#define BPFCANON_BTF_MAX (\d+)$", HEADER, re.MULTILINE)[1])

@@ -1,18 +1,17 @@
 """Compares the records that the shared library decodes with the rows of testdata/vectors.tsv, field by field.
 
-    records.py LIBRARY
-
 The record of an instruction is made of the bytes in its row, by the tables of docs/FORMATS.md (tests/reference/insn_reference.py), and
 those of types are made of the type listing in their row. Encoded again, instructions have the bytes of the row in each byte order.
 """
 
 import ctypes
 import re
-import sys
 from typing import NamedTuple
 
-from tests.process.vectors import GROUPS
-from tests.program import Report
+import pytest
+
+from tests.process.test_vectors import GROUP_NAMES as GROUPS
+
 from tests.reference import insn_reference
 from tests.vector_rows import data, rows, text
 
@@ -83,6 +82,11 @@ class Library:
         return answer.status, types[: answer.types], items[: answer.written]
 
 
+@pytest.fixture(scope="module")
+def library(prefix):
+    return Library(f"{prefix}/lib/libbpfcanon.so.0")
+
+
 # ---- instructions
 
 
@@ -107,29 +111,27 @@ def insn_record(code, order, group):
     return right | {"imm": 0 if form.name in ("Swap", "Atomic") else insn.imm}
 
 
-def check_insns(report, library):
-    with report.group("the record of each instruction, and its encoding"):
-        for line, *codes, group in rows("insn"):
-            for order, code in enumerate(map(data, codes)):
-                status, found = library.insns(order, code)
-                right = insn_record(code, ["little", "big"][order], group)
-                is_right = status == DONE and [values(it) for it in found] == [right]
-                report.expect_that(is_right, line, f"it gave {[values(it) for it in found]}, and right is {right}")
-                for to, other in enumerate(map(data, codes)):
-                    report.expect_that(library.encoded(to, found) == (DONE, other), line, "it is encoded as other bytes")
+def test_insns(library):
+    for line, *codes, group in rows("insn"):
+        for order, code in enumerate(map(data, codes)):
+            status, found = library.insns(order, code)
+            right = insn_record(code, ["little", "big"][order], group)
+            is_right = status == DONE and [values(it) for it in found] == [right]
+            assert is_right, f"{line}: it gave {[values(it) for it in found]}, and right is {right}"
+            for to, other in enumerate(map(data, codes)):
+                assert library.encoded(to, found) == (DONE, other), f"{line}: it is encoded as other bytes"
 
 
-def check_program(report, library):
+def test_program(library):
     """All instructions of the rows as one program: the offset of each is the length of those before it."""
-    with report.group("the records of a program"):
-        for order in range(2):
-            codes = [data(row[1 + order]) for row in rows("insn")]
-            status, found = library.insns(order, b"".join(codes))
-            right = [sum(map(len, codes[:k])) for k in range(len(codes))]
-            report.expect_that(status == DONE and [it.pos for it in found] == right, "offsets", f"they are {[it.pos for it in found]}")
-            single = [values(library.insns(order, code)[1][0]) | {"pos": 0} for code in codes]
-            report.expect_that([values(it) | {"pos": 0} for it in found] == single, "fields", "they differ from those of single instructions")
-            report.expect_that(library.encoded(order, found) == (DONE, b"".join(codes)), "encoded again", "it is other bytes")
+    for order in range(2):
+        codes = [data(row[1 + order]) for row in rows("insn")]
+        status, found = library.insns(order, b"".join(codes))
+        right = [sum(map(len, codes[:k])) for k in range(len(codes))]
+        assert status == DONE and [it.pos for it in found] == right, f"offsets: they are {[it.pos for it in found]}"
+        single = [values(library.insns(order, code)[1][0]) | {"pos": 0} for code in codes]
+        assert [values(it) | {"pos": 0} for it in found] == single, "fields: they differ from those of single instructions"
+        assert library.encoded(order, found) == (DONE, b"".join(codes)), "encoded again: it is other bytes"
 
 
 # ---- types
@@ -194,29 +196,11 @@ def named(file, it):
     return values(it) | {"name": file[it.name : end] if file[end : end + 1] == b"\0" else None}
 
 
-def check_types(report, library):
-    with report.group("the records of each BTF file"):
-        for name, *files, count, shown in rows("btf"):
-            types, items = listed(text(shown))
-            report.expect_that(len(types) == int(count), name, f"its listing has {len(types)} types")
-            for file in map(data, files):
-                status, found, found_items = library.types(file)
-                given = [named(file, it) for it in found], [named(file, it) for it in found_items]
-                report.expect_that(status == DONE and given == (types, items), name, f"it gave {given}, and right is {types, items}")
-
-
-def main():
-    if len(sys.argv) != 2:
-        sys.exit(__doc__)
-    report, library = Report(), Library(sys.argv[1])
-    sizes = [ctypes.sizeof(it) for it in (Insn, Type, Item)]
-    with report.group("the sizes of the records"):
-        report.expect_that(sizes == [32, 40, 40], "sizes", f"they are {sizes}")
-    check_insns(report, library)
-    check_program(report, library)
-    check_types(report, library)
-    return report.end("records")
-
-
-if __name__ == "__main__":
-    sys.exit(main())
+def test_types(library):
+    for name, *files, count, shown in rows("btf"):
+        types, items = listed(text(shown))
+        assert len(types) == int(count), f"{name}: its listing has {len(types)} types"
+        for file in map(data, files):
+            status, found, found_items = library.types(file)
+            given = [named(file, it) for it in found], [named(file, it) for it in found_items]
+            assert status == DONE and given == (types, items), f"{name}: it gave {given}, and right is {types, items}"

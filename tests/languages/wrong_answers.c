@@ -1,5 +1,5 @@
 /*
- * A stand-in for the C library that returns one wrong answer: tests/of_tests/readers.py loads it before the library. Each call is passed on.
+ * A stand-in for the C library that returns one wrong answer: tests/languages/test_readers.py loads it before the library. Each call is passed on.
  * If the call is CALL of the variable WRONG ("CALL STATUS CHANGE") and its answer has STATUS, then CHANGE is made to the answer, or to what
  * was written: "output" changes a byte in the middle, "exact" too if the buffer is just long enough, "behind" the byte after the output,
  * and "writes" the first byte of the buffer. Each call with its status is noted in the file that ANSWERS names, if it does.

@@ -1,12 +1,8 @@
 """Shows that the readers of testdata/vectors.tsv over the C library compare what they read.
 
-    python3 -m tests.of_tests.readers PREFIX FOLDER READER..
-
 Each test of a reader fails if one call of the library returns a wrong answer (wrong_answers.c). It also fails if a field of a row is wrong
 (wrong_vectors.py): with a wrong field in the first row or the last it fails, and if each row has one it names the line of each. A row that
 is left out, doubled or replaced by another is no mistake of a reader: tests/sources/test_vector_file.py refuses such a file.
-
-PREFIX has the C library. A READER is c, go, python or rust: FOLDER contains c_vectors, go_vectors and rust_vectors, built over the library.
 """
 
 from __future__ import annotations
@@ -17,13 +13,17 @@ import json
 import os
 import pathlib
 import re
+import shutil
 import subprocess
 import sys
 import tempfile
 
+import pytest
+
 from tests import TOP
-from tests.of_tests.wrong_vectors import Copy, copies
-from tests.program import SECONDS, Report
+from tests.languages.wrong_vectors import Copy, copies
+from tests.command import SECONDS
+from tests.needs import need
 from tests.vector_rows import VECTORS
 
 DONE, DIFFERENT, FAULT, FAULT_SECOND, _, ROOM = range(6)
@@ -120,7 +120,7 @@ class Python(Reader):
 
     def judge_all(self, library, given, pool):
         """All files in one process, each with a result of its own, since a start of Python takes longer than a test."""
-        words = [sys.executable, str(TOP / "tests" / "of_tests" / "python_vectors.py")]
+        words = [sys.executable, str(TOP / "tests" / "languages" / "python_vectors.py")]
         lines = "".join(f"{self.tests[kind]}\t{path}\n" for kind, path in given)
         environment = os.environ | self.library(library)
         done = subprocess.run(words, input=lines, stdout=subprocess.PIPE, text=True, cwd=self.folder, env=environment, check=True)
@@ -156,7 +156,7 @@ class Library:
     def __init__(self, prefix: pathlib.Path, folder: pathlib.Path) -> None:
         self.right, self.wrong = prefix / "lib" / "libbpfcanon.so.0", folder / "wrong_answers.so"
         words = ["cc", "-O1", "-Wall", "-Wextra", "-Werror", "-shared", "-fPIC", f"-I{prefix / 'include'}"]
-        words += [TOP / "tests" / "of_tests" / "wrong_answers.c", "-o", self.wrong]
+        words += [TOP / "tests" / "languages" / "wrong_answers.c", "-o", self.wrong]
         words += [f"-L{prefix / 'lib'}", "-Wl,--no-as-needed", "-lbpfcanon", f"-Wl,-rpath,{prefix / 'lib'}", "-ldl"]
         subprocess.run(words, check=True)
 
@@ -175,36 +175,66 @@ def answers(library: Library, reader: Reader, test: str) -> tuple[bool, list[tup
     return passes, [(call, int(ended)) for call, ended in map(str.split, lines)]
 
 
-def check_answers(report: Report, library: Library, reader: Reader, pool) -> None:
+@pytest.fixture(scope="module")
+def library(prefix, tmp_path_factory):
+    need("cc")
+    return Library(prefix, tmp_path_factory.mktemp("wrong"))
+
+
+@pytest.fixture(scope="module")
+def pool():
+    with concurrent.futures.ThreadPoolExecutor(os.cpu_count()) as pool:
+        yield pool
+
+
+@pytest.fixture(scope="module", params=["c", "go", "python", "rust"])
+def reader(request, prefix, tmp_path_factory):
+    """A reader, built over the library."""
+    folder = tmp_path_factory.mktemp("readers")
+    if request.param == "c":
+        words = [
+            "cc",
+            "-std=c11",
+            "-O1",
+            f"-I{prefix}/include",
+            TOP / "tests" / "c_interface" / "vectors.c",
+            f"-L{prefix}/lib",
+            "-lbpfcanon",
+        ]
+        subprocess.run([*words, f"-Wl,-rpath,{prefix}/lib", "-o", folder / "c_vectors"], check=True)
+    elif request.param == "go":
+        request.getfixturevalue("go").run(f"go test -c -o {folder}/go_vectors .")
+    elif request.param == "rust":
+        rust = request.getfixturevalue("rust")
+        built = re.search(r"\((\S*vectors-\w+)\)", rust.run("cargo test --no-run --test vectors 2>&1"))[1]
+        shutil.copy(rust.folder / built, folder / "rust_vectors")
+    return readers(folder)[request.param]
+
+
+def test_answers(library, reader, pool):
     """Each test makes the calls of its rows, and fails if one of them has a wrong answer."""
     kinds: dict[str, list[str]] = {}
     for kind, test in reader.tests.items():
         kinds.setdefault(test, []).append(kind)
-    with report.group(f"the reader in {reader.name}, over wrong answers"):
-        for test, (passes, made) in zip(kinds, pool.map(lambda it: answers(library, reader, it), kinds)):
-            report.expect_that(passes, test, "it fails over the right library")
-            lacking = {answer for kind in kinds[test] for answer in ANSWERS[kind]} - set(made)
-            report.expect_that(not lacking, test, f"it makes no call with the answers {sorted(lacking)}")
-            is_c = isinstance(reader, C)
-            wrong = [f"{call} {status} {change}" for call, status in made for change in changes_of(call, status, is_c)]
-            ended = pool.map(lambda it: library.passes(reader, test, WRONG=it), wrong)
-            for what, passes in zip(wrong, ended):
-                report.expect_that(not passes, f"{test}, {what}", "it passes")
+    for test, (passes, made) in zip(kinds, pool.map(lambda it: answers(library, reader, it), kinds)):
+        assert passes, test
+        assert {answer for kind in kinds[test] for answer in ANSWERS[kind]} <= set(made), test
+        wrong = [f"{call} {status} {change}" for call, status in made for change in changes_of(call, status, isinstance(reader, C))]
+        ended = pool.map(lambda it: library.passes(reader, test, WRONG=it), wrong)
+        assert [what for what, passes in zip(wrong, ended) if passes] == [], test
 
 
 # ---- wrong vectors
 
 
-def check_vectors(report: Report, library: pathlib.Path, reader: Reader, wrong: list[tuple[Copy, pathlib.Path]], pool) -> None:
+def test_vectors(library, reader, pool, tmp_path):
     """Each test passes with the file as it is, and names the lines of exactly the rows that are wrong."""
-    with report.group(f"the reader in {reader.name}, with wrong vectors"):
-        for kind, (passes, lines) in zip(ANSWERS, reader.judge_all(library, [(kind, VECTORS) for kind in ANSWERS], pool)):
-            report.expect_that(passes and not lines, kind, f"it names the lines {sorted(lines)} of the right file")
-        given = [(copy.change.kind, path) for copy, path in wrong]
-        for (copy, _), (passes, lines) in zip(wrong, reader.judge_all(library, given, pool)):
-            report.expect_that(not passes, str(copy), "it passes")
-            missing, others = sorted(copy.lines - lines), sorted(lines - copy.lines)
-            report.expect_that(lines == copy.lines, str(copy), f"it doesn't name the lines {missing}, but {others}")
+    wrong = written(tmp_path)
+    for kind, judged in zip(ANSWERS, reader.judge_all(library.right, [(kind, VECTORS) for kind in ANSWERS], pool)):
+        assert judged == (True, frozenset()), kind
+    given = [(copy.change.kind, path) for copy, path in wrong]
+    judged = reader.judge_all(library.right, given, pool)
+    assert [str(copy) for (copy, _), it in zip(wrong, judged) if it != (False, copy.lines)] == []
 
 
 def written(folder: pathlib.Path) -> list[tuple[Copy, pathlib.Path]]:
@@ -215,20 +245,3 @@ def written(folder: pathlib.Path) -> list[tuple[Copy, pathlib.Path]]:
             found.append((copy, folder / f"{number}.tsv"))
             found[-1][1].write_text(copy.text)
     return found
-
-
-def main() -> int:
-    if len(sys.argv) < 4:
-        sys.exit(__doc__)
-    prefix, folder = (pathlib.Path(it).resolve() for it in sys.argv[1:3])
-    report, library, known = Report(), Library(prefix, folder), readers(folder)
-    with concurrent.futures.ThreadPoolExecutor(os.cpu_count()) as pool, tempfile.TemporaryDirectory() as name:
-        wrong = written(pathlib.Path(name))
-        for reader in sys.argv[3:]:
-            check_answers(report, library, known[reader], pool)
-            check_vectors(report, library.right, known[reader], wrong, pool)
-    return report.end("readers of vectors")
-
-
-if __name__ == "__main__":
-    sys.exit(main())
