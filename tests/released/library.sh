@@ -4,7 +4,7 @@
 program_runs() ( "$binary/bin/bpfcanon" insn-canon --order big <"$big" | is_canonical )
 
 # rt builds another program of the same sources for the other tests.
-program_passes() { python "process.$1" "$binary/bin/bpfcanon"; }
+program_passes() ( cd "$top" && "$(tests/python_with pytest markdown_it)" -m pytest -q "tests/process/test_$1.py" --program="$binary/bin/bpfcanon" )
 
 # An x86-64-v2 processor without later extensions runs the command and programs over the library. One that lacks a part of x86-64-v2 is
 # refused in a sentence, with nothing written.
