@@ -12,6 +12,8 @@ def make_debs(program, source, out, work):
     shutil.copytree(source, tree)
     copy(program, tree / PROGRAM.relative_to(TOP))
     variables = {"SOURCE_DATE_EPOCH": str(epoch()), "DEB_BUILD_OPTIONS": "nocheck noautodbgsym", "LC_ALL": "C.UTF-8"}
+    # pybuild takes the first Python of the path, which has to be Debian's.
+    variables["PATH"] = "/usr/sbin:/usr/bin:/sbin:/bin"
     run(["dpkg-buildpackage", "-b", "-us", "-uc", "-d"], cwd=tree, env=os.environ | variables)
     for deb in sorted(tree.parent.glob("*.deb")):
         copy(deb, out / deb.name, 0o644)

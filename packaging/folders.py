@@ -51,7 +51,7 @@ def install_library(tree, root, archive, **variables):
 
 
 def install_files(tree, root, *parts):
-    """Installs some parts as ./install does, and adds them to the record, in which capi/build has listed the library."""
+    """Installs some parts, and adds them to the record, in which capi/build has listed the library."""
     rows = installed(*parts)
     for row in rows:
         copy(tree / row.file, root / row.place, row.mode)

@@ -1,5 +1,5 @@
 # shellcheck shell=sh
-# Puts files below a prefix and removes them again: ./install and capi/build read this file, and the install.sh of a release contains it.
+# Puts files below a prefix and removes them again: capi/build reads this file, and the install.sh of a release contains it.
 # They set
 #
 #   name     what their messages begin with

@@ -63,7 +63,7 @@ class Installed(NamedTuple):
 
 
 def installed(*parts):
-    """What ./install installs of some parts."""
+    """What is installed of some parts."""
     lines = [line.split() for line in (TOP / "packaging" / "installed.txt").read_text().splitlines() if not line.startswith("#")]
     rows = [Installed(part, int(mode, 8), place, file.partition("?")[0]) for part, mode, place, file in lines]
     return [row for row in rows if row.part in parts]

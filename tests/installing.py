@@ -1,4 +1,4 @@
-"""The contract of ./install, capi/build and the install.sh of a release: what they install, replace, remove, refuse and say."""
+"""The contract of capi/build and the install.sh of a release: what they install, replace, remove, refuse and say."""
 
 import dataclasses
 import os

@@ -14,9 +14,8 @@ import tarfile
 import zipfile
 
 from tests.installing import RECORD
-from tests.process.install import FILES
 from tests.program import SECONDS, Report
-from tests.released.installer import DOCUMENTS, LIBRARY, OF_THE_COMMAND
+from tests.released.installer import DOCUMENTS, FILES, LIBRARY, OF_THE_COMMAND
 
 # What is at the top of the archives for a processor. All but the first two are links.
 TOP_FILES = {"README": 0o644, "install.sh": 0o755}

@@ -13,10 +13,26 @@ import shutil
 import sys
 import tempfile
 
+from tests import TOP
 from tests.installing import CHECKS, RECORD, Installer, check_contract, check_files, check_loader, check_older, check_stage, places, refused
-from tests.process.install import FILES
 from tests.program import Ran, Report
 
+# Where each file is installed, below the prefix, and the file of this tree that it is a copy of.
+FILES = {
+    "bin/bpfcanon": TOP / "crates" / "bpfcanon" / "out" / "bpfcanon",
+    "share/man/man1/bpfcanon.1": TOP / "man" / "bpfcanon.1",
+    "share/bash-completion/completions/bpfcanon": TOP / "completions" / "bash" / "bpfcanon",
+    "share/zsh/site-functions/_bpfcanon": TOP / "completions" / "zsh" / "_bpfcanon",
+    "share/doc/bpfcanon/LICENSE": TOP / "packaging" / "NO-LICENSE",
+    "share/doc/bpfcanon/recipes/count.c": TOP / "recipes" / "count.c",
+}
+# The pages for users, and the programs that they compile.
+FILES |= {f"share/doc/bpfcanon/{name}.md": TOP / f"{name}.md" for name in ("README", "CHANGELOG", "SECURITY")}
+PAGES = ["COMPARED", "FAULTS", "FORMATS", "INTEGRATIONS", "LIBRARY", "OBJECTS", "RECIPES", "SCOPE", "SECTIONS", "STABILITY"]
+FILES |= {f"share/doc/bpfcanon/docs/{page}.md": TOP / "docs" / f"{page}.md" for page in PAGES}
+FILES |= {f"share/doc/bpfcanon/testdata/{name}.c": TOP / "testdata" / f"{name}.c" for name in ("flow_table", "packet_filter")}
+if (TOP / "LICENSE").exists():
+    FILES["share/doc/bpfcanon/LICENSE"] = TOP / "LICENSE"
 LIBRARY = ["include/bpfcanon.h", "lib/libbpfcanon.a", "lib/pkgconfig/bpfcanon.pc", "share/man/man3/bpfcanon.3"]
 DOCUMENTS = ["share/doc/bpfcanon/PROVED.txt", "share/doc/bpfcanon/THIRD-PARTY"]
 # What the archives for each processor but x86-64 lack.
@@ -30,7 +46,7 @@ def machine_of(folder):
 
 
 def installer(folder):
-    """The installer with what it has to install: the files of ./install, the library, and what ./release makes."""
+    """The installer with what it has to install: these files, the library, and what ./release makes."""
     shared = next((folder / "lib").glob("libbpfcanon.so.*.*.*")).relative_to(folder).as_posix()
     soname = shared.rsplit(".", 2)[0]
     left_out = [] if machine_of(folder) == "x86_64" else OF_THE_COMMAND

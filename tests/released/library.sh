@@ -90,13 +90,12 @@ builds_from_source() (
     "$source/capi/build" --uninstall "$work/built" && [ ! -e "$work/built" ]
 )
 
-# Without rt, and with nowhere to write, there is one sentence and nothing else. The archive of the sources has no command to install.
+# Without rt, and with nowhere to write, there is one sentence and nothing else.
 refuses_in_a_sentence() (
     is_sentence() { [ "$(wc -l <"$work/said")" -eq 1 ] && grep -q "^$1: " "$work/said"; }
     without_rt=$(tr : '\n' <<<"$PATH" | while read -r folder; do [ -x "$folder/rt" ] || printf '%s:' "$folder"; done)
     ! PATH=$without_rt "$source/capi/archive" >"$work/out" 2>"$work/said" && [ ! -s "$work/out" ] && is_sentence capi/archive || exit 1
     ! PATH=$without_rt "$source/release" "$work/none" >"$work/out" 2>"$work/said" && [ ! -e "$work/none" ] && is_sentence release || exit 1
-    ! "$source/install" "$work/none" >"$work/out" 2>"$work/said" && [ ! -e "$work/none" ] && is_sentence install || exit 1
     touch "$work/file"
     ! "$source/capi/build" "$work/file/prefix" >"$work/out" 2>"$work/said" && is_sentence capi/build || exit 1
     ! "$binary/install.sh" "$work/file/prefix" >"$work/out" 2>"$work/said" && is_sentence install.sh
