@@ -11,6 +11,10 @@ def make_debs(program, source, out, work):
     tree = work / "deb" / f"bpfcanon-{VERSION}"
     shutil.copytree(source, tree)
     copy(program, tree / PROGRAM.relative_to(TOP))
+    # debian/copyright has packaging/NO-LICENSE.
+    head, named, _ = (tree / "debian" / "copyright").read_text().partition("License: bpfcanon\n")
+    licence = "".join(f" {line}\n" if line else " .\n" for line in (source / "LICENSE").read_text().splitlines())
+    (tree / "debian" / "copyright").write_text(head + named + licence)
     variables = {"SOURCE_DATE_EPOCH": str(epoch()), "DEB_BUILD_OPTIONS": "nocheck noautodbgsym", "LC_ALL": "C.UTF-8"}
     # pybuild takes the first Python of the path, which has to be Debian's.
     variables["PATH"] = "/usr/sbin:/usr/bin:/sbin:/bin"

@@ -2,6 +2,8 @@
 
 import pytest
 
+from tests import TOP
+
 IN_GO, IN_RUST = pytest.mark.xdist_group("go"), pytest.mark.xdist_group("rust")
 
 
@@ -63,5 +65,5 @@ def test_python_install(python, tmp_path):
     options = "--quiet --disable-pip-version-check --no-index --no-deps --no-build-isolation"
     line = f"cp -R . {tmp_path}/own && cd {tmp_path} && /usr/bin/python3 -m pip install {options} --target site ./own && test -f site/bpfcanon/py.typed"
     python.run(line, PIP_ROOT_USER_ACTION="ignore")
-    line = f'cd {tmp_path} && /usr/bin/python3 -c "import bpfcanon; bpfcanon.insn_canon(bytes())" && /usr/bin/python3 site/bin/bpfcanon-object --version'
-    assert python.run(line, PYTHONPATH=f"{tmp_path}/site").startswith("bpfcanon-object 0.")
+    line = f'cd {tmp_path} && /usr/bin/python3 -c "import bpfcanon; bpfcanon.insn_canon(bytes())" && /usr/bin/python3 site/bin/bpfcanon-object key {TOP}/bindings/python/tests/compiled/flows.big.elf'
+    assert python.run(line, PYTHONPATH=f"{tmp_path}/site").endswith("flows.big.elf\n")
