@@ -22,6 +22,8 @@ BUILT = TOP / "crates" / "bpfcanon" / "out" / "bpfcanon"
 def pytest_addoption(parser):
     parser.addoption("--program", type=pathlib.Path, default=BUILT, help="the built command")
     parser.addoption("--prefix", type=pathlib.Path, default=TOP / "out" / "prefix", help="where the C library is installed")
+    parser.addoption("--release", type=pathlib.Path, help="the folder of a release")
+    parser.addoption("--tree", type=pathlib.Path, default=TOP, help="the tree that it was made from")
     parser.addoption("--seed", default="1", help="of the changed object files")
     parser.addoption("--count", type=int, default=2_000, help="how many object files are changed")
     parser.addoption("--show", type=int, help="shows a changed object file by its number")
@@ -37,8 +39,8 @@ def compares(function):
 
 def pytest_collection_modifyitems(items):
     for item in items:
-        used = {"program", "prefix"} & set(getattr(item, "fixturenames", ["program"]))
-        for fixture, mark in ("program", "command"), ("prefix", "library"):
+        used = {"program", "prefix", "release"} & set(getattr(item, "fixturenames", ["program"]))
+        for fixture, mark in ("program", "command"), ("prefix", "library"), ("release", "release"):
             if fixture in used:
                 item.add_marker(mark)
         if not used and not any(item.iter_markers("slow")):

@@ -13,8 +13,8 @@ LDFLAGS = "-Wl,-z,relro,-z,now,-z,noexecstack -Wl,--build-id=sha1 -s"
 ARM_TOOLS = {"CC": "aarch64-linux-gnu-gcc", "OBJCOPY": "aarch64-linux-gnu-objcopy", "OBJDUMP": "aarch64-linux-gnu-objdump"}
 # gcc for ARM knows no -fcf-protection.
 ARM_CFLAGS = CFLAGS.replace("-fcf-protection", "-mbranch-protection=standard")
-# The list of what is installed, which install.sh reads, and the documents that are at the top of an archive as links.
-LIST = pathlib.Path("share", "doc", "bpfcanon", "installed.txt")
+# The documents that are at the top of an archive as links.
+DOCUMENTS = pathlib.Path("share", "doc", "bpfcanon")
 AT_TOP = ["CHANGELOG.md", "LICENSE", "PROVED.txt", "SECURITY.md", "THIRD-PARTY"]
 
 # The files of testdata/ that the examples of the Go module and its README read.
@@ -51,26 +51,18 @@ def install_library(tree, root, archive, **variables):
 
 
 def install_files(tree, root, *parts):
-    """Installs some parts, and adds them to the record, in which capi/build has listed the library."""
-    rows = installed(*parts)
-    for row in rows:
+    """Copies some parts to where they are installed."""
+    for row in installed(*parts):
         copy(tree / row.file, root / row.place, row.mode)
-    lines = [line for line in (root / LIST).read_text().splitlines() if not line.startswith("folder\t")]
-    lines += [f"{row.part}\t{row.mode:o}\t{row.place}" for row in rows]
-    (root / LIST).write_text("".join(f"{line}\n" for line in sorted(lines)))
 
 
 def complete(root, readme, machine):
     """Adds what a folder for one processor has at its top."""
-    parts = {"@MACHINE@": machine, "@INSTALLING@": (TOP / "packaging" / "installing.sh").read_text().partition("\n")[2]}
-    installer = (TOP / "packaging" / "install.sh").read_text()
-    for name, text in parts.items():
-        installer = installer.replace(name, text)
-    (root / "install.sh").write_text(installer)
+    (root / "install.sh").write_text((TOP / "packaging" / "install.sh").read_text().replace("@MACHINE@", machine))
     (root / "install.sh").chmod(0o755)
     (root / "README").write_text(filled((TOP / "packaging" / readme).read_text()))
     for name in AT_TOP:
-        (root / name).symlink_to(LIST.with_name(name))
+        (root / name).symlink_to(DOCUMENTS / name)
 
 
 def stage_binary(tree, work):

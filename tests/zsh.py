@@ -6,7 +6,7 @@ import subprocess
 import tempfile
 
 from tests import TOP
-from tests.program import SECONDS
+from tests.command import SECONDS
 
 # The settings of the shell behind the terminal. Each match is noted as it is shown, with its description; then the line is dropped.
 SETTINGS = r"""

@@ -28,7 +28,6 @@ MADE_IN = {".git", "out", "__pycache__"}
 # Files that a reader makes, those of other trees, and those that the repository must not contain.
 MADE = {"key.c", "members.c", "main.go", "canonical.bin", "out/PROVED.txt", "Cargo.toml", "btf.rst", "PROVED.txt"}
 MADE |= {"CMakeLists.txt", "struct_sizes.c", "inspect.go", "parts.py", "helper_calls.rs"}
-MADE |= {"share/doc/bpfcanon/installed.txt"}
 
 
 def slug(heading):

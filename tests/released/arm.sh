@@ -24,11 +24,10 @@ arm_passes() (
 
 # Only a stage, whose files another machine gets, takes the files here.
 arm_installs_elsewhere() (
-    ! "$arm/install.sh" "$work/none" >"$work/out" 2>"$work/said" && [ ! -e "$work/none" ] || exit 1
+    ! "$arm/install.sh" --prefix="$work/none" >"$work/out" 2>"$work/said" && [ ! -e "$work/none" ] || exit 1
     [ "$(cat "$work/said")" = "install.sh: these files are for Linux on aarch64, and this is Linux x86_64" ] || exit 1
     export DESTDIR=$work/arm-stage
-    "$arm/install.sh" /opt && PKG_CONFIG_SYSROOT_DIR=$DESTDIR links_with "$DESTDIR/opt" aarch64-linux-gnu-gcc "$qemu" || exit 1
-    "$arm/install.sh" --uninstall /opt && [ -z "$(ls -A "$DESTDIR")" ]
+    "$arm/install.sh" --prefix=/opt && PKG_CONFIG_SYSROOT_DIR=$DESTDIR links_with "$DESTDIR/opt" aarch64-linux-gnu-gcc "$qemu"
 )
 
 # The wheel for 64-bit ARM has the package of the other one and the library of the archive.
@@ -41,7 +40,6 @@ arm_wheel_is_whole() (
 
 check_arm() {
     check needs_what_it_says "$arm" aarch64-linux-gnu-objdump
-    check python released.installer "$arm"
     check arm_wheel_is_whole
     if [ -z "$qemu" ]; then return; fi
     if there pkg-config; then

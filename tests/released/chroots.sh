@@ -74,16 +74,7 @@ is_installed() {
     [ "$(chroot "$root" ldconfig -p | grep -c 'libbpfcanon\.so\.0 ')" -eq 1 ]
 }
 
-# ---- an older version: 0.0.9, with a library, pages and a command that this one has under other names or not at all
-
-older_archive() (
-    folder="$work/older/bpfcanon-0.0.9-x86_64-linux" record=share/doc/bpfcanon/installed.txt
-    mkdir -p "$work/older" && cp -R "$binary" "$folder" && cd "$folder" || exit 1
-    mv "lib/libbpfcanon.so.$version" lib/libbpfcanon.so.0.0.9 && ln -sf libbpfcanon.so.0.0.9 lib/libbpfcanon.so.0 || exit 1
-    mkdir share/doc/bpfcanon/old && echo "a page" >share/doc/bpfcanon/old/page.md || exit 1
-    cp share/man/man1/bpfcanon.1 share/man/man1/bpfcanon-old.1 && sed -i "s/libbpfcanon\.so\.$version/libbpfcanon.so.0.0.9/" $record || exit 1
-    printf '%s\t644\t%s\n' pages share/doc/bpfcanon/old/page.md command share/man/man1/bpfcanon-old.1 >>$record
-)
+# ---- an older version, 0.0.9
 
 # The packages as 0.0.9, each with a further page, and the library under its older name.
 older_debs() (
@@ -102,16 +93,15 @@ older_debs() (
 
 # ---- what is tried in each chroot
 
+# Each file of the archive is below the prefix.
 archive_in() (
     root=$work/$1 doc=usr/local/share/doc/bpfcanon
     everything >"$work/before"
-    chroot "$root" "$place/older/bpfcanon-0.0.9-x86_64-linux/install.sh" && [ -f "$root/usr/local/lib/libbpfcanon.so.0.0.9" ] || exit 1
     follow "bpfcanon-$version-x86_64-linux.tar.xz" && is_installed /usr/local || exit 1
-    [ -z "$(cd "$root/usr/local" && find . -name '*0.0.9' -o -name '*old*')" ] || exit 1
     [ "$(head -n 1 "$root/$doc/PROVED.txt" | cut -d , -f 1)" = "bpfcanon $version" ] || exit 1
     for page in LICENSE THIRD-PARTY CHANGELOG.md SECURITY.md; do [ -s "$root/$doc/$page" ] || exit 1; done
-    ! as_user "./bpfcanon-$version-x86_64-linux/install.sh --uninstall" && is_installed /usr/local || exit 1
-    as_root "./bpfcanon-$version-x86_64-linux/install.sh --uninstall" && everything | diff "$work/before" -
+    (cd "$binary" && find bin include lib share ! -type d) | while read -r file; do rm "$root/usr/local/$file" || exit 1; done
+    chroot "$root" ldconfig
 )
 
 debs_in() (
@@ -129,15 +119,12 @@ debs_in() (
     as_root "dpkg --purge $names" && everything | diff "$work/before" -
 )
 
-# The C library from the sources, in the user's own folder, over the older archive, whose other files stay until that is removed.
+# The C library from the sources, in the user's own folder.
 source_in() (
-    root=$work/$1 older=older/bpfcanon-0.0.9-x86_64-linux/install.sh own="$work/$1/home/some user/.local"
-    as_user "$older \"\$HOME/.local\"" && [ -f "$own/lib/libbpfcanon.so.0.0.9" ] || exit 1
-    as_user "$(lines_of "$out/README" "bpfcanon-source-$version.tar.xz")" && [ ! -e "$own/lib/libbpfcanon.so.0.0.9" ] || exit 1
+    root=$work/$1
+    as_user "$(lines_of "$out/README" "bpfcanon-source-$version.tar.xz")" || exit 1
     as_user "PKG_CONFIG_PATH=\$HOME/.local/lib/pkgconfig; export PKG_CONFIG_PATH
-        eval \"cc canon.c -static \$(pkg-config --cflags --libs bpfcanon) -o built\"" && as_user ./built <"$big" | is_canonical || exit 1
-    as_user "bpfcanon-source-$version/capi/build --uninstall \"\$HOME/.local\"" && [ -x "$own/bin/bpfcanon" ] && [ ! -e "$own/lib" ] || exit 1
-    as_user "$older --uninstall \"\$HOME/.local\"" && [ ! -e "$own" ]
+        eval \"cc canon.c -static \$(pkg-config --cflags --libs bpfcanon) -o built\"" && as_user ./built <"$big" | is_canonical
 )
 
 wheel_in() (
@@ -170,7 +157,6 @@ check_chroots() {
         skip "lintian" lintian
     fi
     if [ ${#making[@]} -eq 0 ]; then return; fi
-    check older_archive
     if has_debs; then check older_debs; fi
     for suite in "${suites[@]}"; do
         if ! wait "${making[$suite]}"; then skip "the chroot" "$suite on the mirror"; continue; fi

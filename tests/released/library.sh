@@ -86,8 +86,7 @@ readme_builds() (
 # The sources are built without Rattle.
 builds_from_source() (
     mkdir "$work/no-rattle" && printf '#!/bin/sh\nexit 1\n' >"$work/no-rattle/rt" && chmod +x "$work/no-rattle/rt"
-    PATH=$work/no-rattle:$PATH "$source/capi/build" "$work/built" && links_with "$work/built" || exit 1
-    "$source/capi/build" --uninstall "$work/built" && [ ! -e "$work/built" ]
+    PATH=$work/no-rattle:$PATH "$source/capi/build" "$work/built" && links_with "$work/built"
 )
 
 # Without rt, and with nowhere to write, there is one sentence and nothing else.
@@ -97,8 +96,7 @@ refuses_in_a_sentence() (
     ! PATH=$without_rt "$source/capi/archive" >"$work/out" 2>"$work/said" && [ ! -s "$work/out" ] && is_sentence capi/archive || exit 1
     ! PATH=$without_rt "$source/release" "$work/none" >"$work/out" 2>"$work/said" && [ ! -e "$work/none" ] && is_sentence release || exit 1
     touch "$work/file"
-    ! "$source/capi/build" "$work/file/prefix" >"$work/out" 2>"$work/said" && is_sentence capi/build || exit 1
-    ! "$binary/install.sh" "$work/file/prefix" >"$work/out" 2>"$work/said" && is_sentence install.sh
+    ! "$binary/install.sh" --uninstall >"$work/out" 2>"$work/said" && grep -q 'install.sh \[--prefix=PREFIX\]' "$work/said"
 )
 
 check_library() {

@@ -74,5 +74,5 @@ licence_and_no_arm() (
     git add LICENSE && git -c user.name=tests -c user.email=tests@example.org commit --quiet -m "Add a licence" || exit 1
     rm crates/bpfcanon_c/out/libbpfcanon_c.aarch64.a
     ./release --partial --unverified "$work/licensed" >made || exit 1
-    grep '^left out: what is for 64-bit ARM' made && python released.contents "$work/licensed" "$clone"
+    grep '^left out: what is for 64-bit ARM' made && contents_are_right "$work/licensed" "$clone"
 )

@@ -86,7 +86,10 @@ def crate(tmp_path_factory):
 def test_order(crate, lines, moved):
     """The only error is that a value is moved while it is borrowed, or the test runs without one."""
     (crate / "src" / "lib.rt").write_text(SOURCE.format(lines="\n            ".join(lines)))
-    said = subprocess.run(["rt", "try", "--test"], cwd=crate, stdout=subprocess.PIPE, stderr=subprocess.STDOUT, text=True).stdout
+    for _ in range(3):
+        said = subprocess.run(["rt", "try", "--test"], cwd=crate, stdout=subprocess.PIPE, stderr=subprocess.STDOUT, text=True).stdout
+        if "no-answer" not in said:  # on a busy machine it may find no memory to start in
+            break
     errors = re.findall(r"error.*", said)
     if moved is None:
         assert not errors and "1 passed" in said
