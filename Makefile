@@ -57,8 +57,8 @@ PARTS = check-quick prove check-tests record check-release
 check: | $(filter tools,$(MAKECMDGOALS))
 	@rm -f out/*.log out/seconds; status=0; for part in $(PARTS); do began=$$SECONDS; $(MAKE) $$part || status=$$?; \
 	echo "$$part: $$((SECONDS - began)) s" >> out/seconds; [ $$status = 0 ] || break; done; cat out/seconds; \
-	grep -haE 'NOT REFUSED|BAD EDIT|NOT PROVED|tests FAILED|had not ended|^(rt: )?FAILED' out/rt_ci.log; \
-	grep -haE '[0-9]+ passed' out/rt_ci.log out/quick.log out/tests.log | sed 's/^=* //; s/ =*$$//' > out/summary; cat out/summary; exit $$status
+	grep -shaE 'NOT REFUSED|BAD EDIT|NOT PROVED|tests FAILED|had not ended|^(rt: )?FAILED' out/rt_ci.log; \
+	grep -shaE '[0-9]+ (passed|failed)' out/quick.log out/rt_ci.log out/tests.log | sed 's/^=* //; s/ =*$$//' > out/summary; cat out/summary; exit $$status
 
 check-quick: lint
 	$(PYTHON) -m pytest -q -m quick | tee out/quick.log
