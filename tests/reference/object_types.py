@@ -128,7 +128,7 @@ def extension_faults(elf: Elf, section: int, types: Types) -> Iterator[Fault]:
     yield from rule("ExtensionMagic", extension.place, extension.magic == MAGIC)
     yield from rule("ExtensionVersion", extension.place + 2, extension.version == VERSION)
     yield from rule("ExtensionFlags", extension.place + 3, extension.flags == 0)
-    yield from rule("ExtensionHeaderSize", extension.place + 4, HEADER_SIZE <= extension.length <= extension.size)
+    yield from rule("ExtensionHeaderSize", extension.place + 4, HEADER_SIZE <= extension.length < extension.size)
     for part in extension.parts:
         yield from part_faults(elf, extension, part, types)
     functions, lines, core = extension.groups(elf)

@@ -1,0 +1,89 @@
+"""The object files that are judged: sources that clang compiles in several ways in both byte orders, and those of cilium/ebpf."""
+
+from __future__ import annotations
+
+import functools
+import importlib.util
+import shutil
+import subprocess
+from dataclasses import dataclass
+from pathlib import Path
+from typing import Iterator
+
+from tests import TOP
+from tests.objects.bases import DEBUG, INSTALLED, SOURCES, compile_source
+
+ORDERS = {"little": "bpfel", "big": "bpfeb"}
+TRIED_TOO = ("-O1", "-mcpu=v2", "-mcpu=v3")
+# What tools make of an object; IN and OUT stand for both files. libbpf links only what has the byte order of the processor.
+TOOLS = {
+    "stripped": ("llvm-strip", "-g", "IN", "-o", "OUT"),
+    "copied": ("llvm-objcopy", "IN", "OUT"),
+    "unneeded": ("llvm-strip", "--strip-unneeded", "IN", "-o", "OUT"),
+    "linked": ("bpftool", "gen", "object", "OUT", "IN"),
+}
+
+
+@dataclass(frozen=True)
+class Made:
+    """An object that is made from a source, or one that a package has installed."""
+
+    source: Path
+    order: str = ""
+    flags: tuple[str, ...] = ()
+    tool: str = ""
+
+    @property
+    def name(self) -> str:
+        return " ".join(it for it in (self.source.name, self.order, *self.flags, self.tool) if it)
+
+    @property
+    def tools(self) -> tuple[str, ...]:
+        """The commands that make it."""
+        return ("clang", *(TOOLS[self.tool][:1] if self.tool else ())) if self.order else ()
+
+
+def all_made() -> Iterator[Made]:
+    for path, variants in SOURCES:
+        typed = [it for it in variants if it != ()]
+        for order in ORDERS:
+            for flags in (*variants, *((*typed[0], it) for it in TRIED_TOO)):
+                yield Made(TOP / path, order, flags)
+            yield from (Made(TOP / path, order, typed[0], it) for it in TOOLS if (order, it) != ("big", "linked"))
+    yield from map(Made, sorted(INSTALLED.glob("*.elf")))
+
+
+def named(source: str, order: str = "little") -> Made:
+    """An object of a source, with types."""
+    path = next(TOP / path for path, _ in SOURCES if path.endswith(f"/{source}.c"))
+    return Made(path, order, DEBUG)
+
+
+@functools.lru_cache(maxsize=None)
+def content(made: Made, folder: Path) -> bytes:
+    """The bytes of an object, which is made in a folder."""
+    if not made.order:
+        return made.source.read_bytes()
+    path = folder / f"{made.name.replace(' ', '_')}.o"
+    if made.tool:
+        return changed(content(Made(made.source, made.order, made.flags), folder), made.tool, folder)
+    assert compile_source(made.source, ORDERS[made.order], made.flags, path), f"clang refuses {made.name}"
+    return path.read_bytes()
+
+
+def changed(data: bytes, tool: str, folder: Path) -> bytes:
+    """What a tool makes of an object."""
+    first, second = folder / "object.o", folder / "changed.o"
+    first.write_bytes(data)
+    second.unlink(missing_ok=True)
+    line = [{"IN": str(first), "OUT": str(second)}.get(it, it) for it in TOOLS[tool]]
+    subprocess.run(line, check=True, capture_output=True)
+    return second.read_bytes()
+
+
+def is_there(tool: str) -> bool:
+    """Whether a command, a library or a module of tests/packages.txt is there."""
+    places = {"libbpf": "/usr/include/bpf/libbpf.h", "github.com/cilium/ebpf": str(INSTALLED.parent / "go.mod")}
+    if tool == "elftools":
+        return importlib.util.find_spec(tool) is not None
+    return Path(places[tool]).exists() if tool in places else shutil.which(tool) is not None

@@ -1,0 +1,160 @@
+"""Objects that are changed with knowledge of ELF and BTF: equal canonical bytes mean an equal view, and each byte has its place."""
+
+from __future__ import annotations
+
+import contextlib
+import hashlib
+import os
+import re
+import struct
+from pathlib import Path
+from typing import Iterator
+
+import pytest
+
+from tests import TOP
+from tests.judges import objects
+from tests.judges.conftest import Canon, Refused, Tally, need
+from tests.judges.loaders import Loader, is_accepted
+from tests.objects.bases import all_bases
+from tests.objects.changes import Base, Changed, changed
+
+COUNT, SEED = int(os.environ.get("CHANGED_OBJECTS", "2000")), os.environ.get("CHANGED_SEED", "1")
+FEWEST = COUNT // 3  # accepted objects: fewer would test little
+HEADER = {
+    "EI_MAG": 4, "EI_CLASS": 1, "EI_DATA": 1, "EI_VERSION": 1, "EI_OSABI": 1, "EI_ABIVERSION": 1, "EI_PAD": 7, "e_type": 2,
+    "e_machine": 2, "e_version": 4, "e_entry": 8, "e_phoff": 8, "e_shoff": 8, "e_flags": 4, "e_ehsize": 2, "e_phentsize": 2, "e_phnum": 2,
+    "e_shentsize": 2, "e_shnum": 2, "e_shstrndx": 2,
+}  # fmt: skip
+ROW = {
+    "sh_name": 4, "sh_type": 4, "sh_flags": 8, "sh_addr": 8, "sh_offset": 8, "sh_size": 8, "sh_link": 4, "sh_info": 4, "sh_addralign": 8,
+    "sh_entsize": 8,
+}  # fmt: skip
+SYMBOL = {"st_name": 4, "st_info": 1, "st_other": 1, "st_shndx": 2, "st_value": 8, "st_size": 8}
+EXTENSION_HEADER = {
+    "magic": 2, "version": 1, "flags": 1, "hdr_len": 4, "func_info_off": 4, "func_info_len": 4, "line_info_off": 4, "line_info_len": 4,
+    "core_relo_off": 4, "core_relo_len": 4,
+}  # fmt: skip
+GROUP = {"sec_name_off": 4, "num_info": 4}
+EXTENSION = {
+    "functions": {"insn_off": 4, "type_id": 4},
+    "lines": {"insn_off": 4, "file_name_off": 4, "line_off": 4, "line_col": 4},
+    "CO-RE relocations": {"insn_off": 4, "type_id": 4, "access_str_off": 4, "kind": 4},
+}
+WRITTEN = (".BTF", ".BTF.ext", ".symtab", ".strtab")
+SHT_NOBITS, SHT_REL = 8, 9
+WAYS = (0x01, 0x80, 0xFF)
+Place = tuple[str, str]
+
+
+@pytest.fixture(scope="session")
+def bases(folder: Path) -> list[Base]:
+    need("cc", "clang", "llvm-strip")
+    return all_bases(folder)
+
+
+def digest(content: bytes) -> bytes:
+    return hashlib.sha256(content).digest()
+
+
+def accepted(bases: list[Base], canon: Canon) -> Iterator[tuple[Changed, bytes]]:
+    """The changed objects that have a canonical file, with it."""
+    for number in range(COUNT):
+        one = changed(bases, SEED, number)
+        with contextlib.suppress(Refused):
+            yield one, canon(one.content)
+
+
+def test_equal_bytes_mean_equal_views(bases: list[Base], loader: Loader, canon: Canon, tally: Tally) -> None:
+    """A view of a canonical file is the one of each object that has it. What cilium/ebpf refuses, it may take then."""
+    views: dict[bytes, bytes] = {}
+    counts, wrong = tally[f"{loader.name}, changed objects"], []
+    for one, canonical in accepted(bases, canon):
+        view, key = loader.view(one.content), digest(canonical)
+        known = views.get(key) or views.setdefault(key, digest(loader.view(canonical)))
+        is_repaired = loader.name == "cilium" and not is_accepted(view)
+        word = "the same" if digest(view) == known else "refused, and then accepted" if is_repaired else "other"
+        counts[f"{word}, {'accepted' if is_accepted(view) else 'refused'}"] += 1
+        wrong += [str(one)] if word == "other" else []
+    counts["canonical files"] = len(views)
+    assert not wrong[:20]
+
+
+def test_changed_canonical_file_is_canonical(bases: list[Base], canon: Canon, tally: Tally) -> None:
+    count, wrong = 0, []
+    for count, (one, canonical) in enumerate(accepted(bases, canon), 1):
+        wrong += [str(one)] if canon(canonical) != canonical else []
+    tally["changed objects"].update({"accepted": count, "refused": COUNT - count})
+    assert not wrong[:20]
+    assert count >= FEWEST
+
+
+def string_at(data: bytes, place: int) -> str:
+    return data[place : data.index(b"\0", place)].decode()
+
+
+def fields_at(found: list[Place], start: int, count: int, fields: dict[str, int], part: str) -> int:
+    """Name the bytes of records with these fields. Returns where they end."""
+    names = [(name, part) for name, size in fields.items() for _ in range(size)] * count
+    found[start : start + len(names)] = names
+    return start + len(names)
+
+
+def extension_fields(found: list[Place], data: bytes, mark: str, start: int) -> None:
+    """Name the bytes of .BTF.ext."""
+    fields_at(found, start, 1, EXTENSION_HEADER, ".BTF.ext")
+    for number, (part, fields) in enumerate(EXTENSION.items()):
+        offset, length = struct.unpack_from(f"{mark}II", data, start + 8 + 8 * number)
+        place = start + 32 + offset + 4
+        while place < start + 32 + offset + length:
+            (count,) = struct.unpack_from(f"{mark}I", data, place + 4)
+            place = fields_at(found, fields_at(found, place, 1, GROUP, part), count, fields, part)
+
+
+def places_of(data: bytes) -> list[Place]:
+    """What each byte of a canonical file is: a field and the part of the file that it belongs to."""
+    mark = "<" if data[5] == 1 else ">"
+    (table,) = struct.unpack_from(f"{mark}Q", data, 40)
+    rows = [struct.unpack_from(f"{mark}IIQQQQIIQQ", data, place) for place in range(table, len(data), 64)]
+    found = [("bytes between sections", "")] * len(data)
+    fields_at(found, 0, 1, HEADER, "")
+    for number, row in enumerate(rows):
+        name, size = string_at(data, rows[-1][4] + row[0]), 0 if row[1] == SHT_NOBITS else row[5]
+        part = name if name in WRITTEN else "relocations" if row[1] == SHT_REL else "code and data"
+        found[row[4] : row[4] + size] = [("content", part)] * size
+        fields_at(found, table + 64 * number, 1, ROW, part)
+        if not size:
+            fields_at(found, table + 64 * number + 24, 1, {"sh_offset": 8}, "sections without bytes")
+        if part == ".symtab":
+            fields_at(found, row[4], size // 24, SYMBOL, part)
+        if part == ".BTF.ext":
+            extension_fields(found, data, mark, row[4])
+    return found
+
+
+def free_places() -> set[Place]:
+    """What the page calls free. A row of its table is fields, and the parts of a file in which they are free; in all parts if it has none."""
+    part = (TOP / "docs/OBJECTS.md").read_text().partition("\n### What has no effect\n")[2].partition("\n#")[0]
+    rows = [it.partition(" of ") for it in re.findall(r"^\| ([^|]+?) \|", part, re.MULTILINE)[1:]]
+    return {(field, one) for fields, _, parts in rows for field in fields.split(", ") for one in parts.split(", ")}
+
+
+@pytest.mark.parametrize("source, order", [("core", "little"), ("packet_filter", "big"), ("operations", "little")])
+def test_each_byte(source: str, order: str, canon: Canon, folder: Path, tally: Tally) -> None:
+    """A changed byte of a canonical file is refused, or changes it, unless it is in a field that the page calls free."""
+    need("clang")
+    data = canon(objects.content(objects.named(source, order), folder))
+    free, names = free_places(), places_of(data)
+    wrong = set()
+    for place, way in ((place, way) for place in range(len(data)) for way in WAYS):
+        other = bytearray(data)
+        other[place] ^= way
+        try:
+            is_same = canon(bytes(other)) == data
+        except Refused:
+            tally["each byte"]["refused"] += 1
+            continue
+        tally["each byte"]["the same canonical file" if is_same else "another canonical file"] += 1
+        if is_same and not free.intersection((names[place], (names[place][0], ""))):
+            wrong.add(names[place])
+    assert not wrong

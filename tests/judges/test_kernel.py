@@ -1,0 +1,71 @@
+"""The kernel loads the same from the canonical file: programs with their tags, maps and types. Nothing stays loaded."""
+
+from __future__ import annotations
+
+import ctypes
+import json
+import os
+import shutil
+import subprocess
+from pathlib import Path
+from typing import Any, Iterator
+
+import pytest
+
+from tests.judges.conftest import Canon, Tally, each, need
+from tests.judges.objects import all_made
+
+CLONE_NEWNS = 0x20000
+PROGRAM = ("name", "type", "tag", "gpl_compatible", "bytes_xlated")
+MAP = ("name", "type", "flags", "bytes_key", "bytes_value", "max_entries")
+# The kernel refuses the other byte order, and loads of a copy what it loads of the first.
+LOADABLE = [it for it in all_made() if it.order == "little" and it.tool in ("", "linked") or it.source.name.endswith("-el.elf")]
+
+
+@pytest.fixture(scope="session")
+def pins(folder: Path) -> Path:
+    """A folder of pins, which only this process and its children see."""
+    need("bpftool")
+    if os.geteuid() or ctypes.CDLL(None).unshare(CLONE_NEWNS):
+        pytest.skip("only root may load, in a mount namespace of its own")
+    pins = folder / "pins"
+    pins.mkdir()
+    mounts = (["mount", "--make-rprivate", "/"], ["mount", "-t", "bpf", "bpf", str(pins)])
+    if any(subprocess.run(it, capture_output=True, check=False).returncode for it in mounts):
+        pytest.skip("a bpffs can't be mounted")
+    return pins
+
+
+def ask(*words: str) -> Any:
+    return json.loads(subprocess.run(["bpftool", "-j", *words], capture_output=True, check=True).stdout)
+
+
+def fields(answer: dict[str, Any], names: tuple[str, ...]) -> dict[str, Any]:
+    return {it: answer.get(it) for it in names}
+
+
+def types_of(program: dict[str, Any]) -> Any:
+    return ask("btf", "dump", "id", str(program["btf_id"])) if "btf_id" in program else None
+
+
+def loaded(content: bytes, folder: Path, pins: Path) -> Iterator[Any]:
+    """What the kernel has loaded of an object, or the first error. The names of maps begin with that of the file."""
+    path, place = folder / "loaded.o", pins / "object"
+    path.write_bytes(content)
+    done = subprocess.run(["bpftool", "prog", "loadall", path, place], capture_output=True, text=True, check=False)
+    if done.returncode:
+        yield next((it for it in done.stderr.splitlines() if it.startswith("libbpf: ") and ("rror" in it or "failed" in it)), "refused")
+    for pin in sorted(place.iterdir()) if place.is_dir() else ():
+        program = ask("prog", "show", "pinned", str(pin))
+        maps = (ask("map", "show", "id", str(it)) for it in program.get("map_ids", ()))
+        yield pin.name, fields(program, PROGRAM), [fields(it, MAP) for it in maps], types_of(program)
+    shutil.rmtree(place, ignore_errors=True)
+
+
+@each(LOADABLE)
+def test_kernel_loads_the_same(made: bytes, canon: Canon, folder: Path, pins: Path, tally: Tally) -> None:
+    one, other = (list(loaded(it, folder, pins)) for it in (made, canon(made)))
+    programs = sum(isinstance(it, tuple) for it in one)
+    word = "accepted" if programs else "refused"
+    tally["kernel"].update({f"the same, {word}" if one == other else "other": 1, "programs": programs})
+    assert one == other

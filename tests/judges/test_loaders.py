@@ -1,0 +1,22 @@
+"""Loaders read the canonical file like the original, and a canonical file is accepted and canonical."""
+
+from __future__ import annotations
+
+from tests.judges.conftest import Canon, Tally, each
+from tests.judges.loaders import Loader, is_accepted
+from tests.judges.objects import all_made
+
+
+@each(all_made())
+def test_loader_reads_the_same(loader: Loader, made: bytes, canon: Canon, tally: Tally) -> None:
+    one, other = loader.view(made), loader.view(canon(made))
+    word = "accepted" if is_accepted(one) else "refused"
+    tally[loader.name].update([f"the same, {word}" if one == other else "other"])
+    assert one.decode() == other.decode()
+
+
+@each(all_made())
+def test_canonical_file_is_canonical(made: bytes, canon: Canon) -> None:
+    canonical = canon(made)
+    assert canon(canonical) == canonical
+    assert canonical[:8] == b"\x7fELF\x02" + made[5:7] + b"\0"
