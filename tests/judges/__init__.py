@@ -1,6 +1,6 @@
 """Judges of canonical object files: programs that aren't ours say of a canonical file what they say of the original, source lines aside.
 
-    python3 -B -m pytest -q tests/judges
+    "$(tests/python_with pytest elftools)" -B -m pytest -p no:cacheprovider -q tests/judges
 
 Canonical files are those of the reference, or of a program, if BPFCANON_OBJECT names one: `$BPFCANON_OBJECT canon FILE` prints a canonical file,
 or ends with status 1. CHANGED_OBJECTS is how many objects are changed (2000), and CHANGED_SEED what the changes depend on. At the end stands

@@ -17,7 +17,7 @@ SAY_THE_SAME = {
     "bpftool btf dump": ("bpftool", "btf", "dump", "file"),
     "bpftool gen skeleton": ("bpftool", "gen", "skeleton"),
 }
-# Their output has what is dropped and renumbered.
+# What they print has what is dropped and renumbered.
 WARN_OF_NOTHING = {
     "llvm-objdump -t": ("llvm-objdump", "-t"),
     "llvm-readelf -a": ("llvm-readelf", "-aW"),
@@ -28,26 +28,18 @@ WRITTEN = ("", ".symtab", ".strtab", ".shstrtab", ".llvm_addrsig", ".BTF", ".BTF
 
 
 @each(all_made())
-@pytest.mark.parametrize("tool", SAY_THE_SAME)
+@pytest.mark.parametrize("tool", [*SAY_THE_SAME, *WARN_OF_NOTHING])
 def test_tool_says_the_same(tool: str, made: bytes, canon: Canon, folder: Path, tally: Tally) -> None:
-    need(SAY_THE_SAME[tool][0])
-    one, other = (ask(SAY_THE_SAME[tool], it, folder) for it in (made, canon(made)))
-    is_same = (one.status, without_file(one.output)) == (other.status, without_file(other.output))
-    tally[tool].update([f"the same, {'refused' if one.status else 'accepted'}" if is_same else "other"])
-    assert without_file(one.output) == without_file(other.output)
+    line = {**SAY_THE_SAME, **WARN_OF_NOTHING}[tool]
+    need(line[0])
+    one, other = (ask(line, it, folder) for it in (made, canon(made)))
+    texts = [without_file(it.output) if tool in SAY_THE_SAME else "" for it in (one, other)]
+    is_same = texts[0] == texts[1] and one.status == other.status and set(other.warnings) <= set(one.warnings)
+    word = "the same" if tool in SAY_THE_SAME else "no new warning"
+    tally[tool].update([f"{word}, {'refused' if one.status else 'accepted'}" if is_same else "other"])
+    assert texts[0] == texts[1]
     assert one.status == other.status
     assert set(other.warnings) <= set(one.warnings)
-
-
-@each(all_made())
-@pytest.mark.parametrize("tool", WARN_OF_NOTHING)
-def test_tool_warns_of_nothing(tool: str, made: bytes, canon: Canon, folder: Path, tally: Tally) -> None:
-    need(WARN_OF_NOTHING[tool][0])
-    one, other = (ask(WARN_OF_NOTHING[tool], it, folder) for it in (made, canon(made)))
-    is_same = one.status == other.status and set(other.warnings) <= set(one.warnings)
-    tally[tool].update([f"no new warning, {'refused' if one.status else 'accepted'}" if is_same else "other"])
-    assert set(other.warnings) <= set(one.warnings)
-    assert one.status == other.status
 
 
 @each(all_made())
