@@ -1,0 +1,6 @@
+pub mod RuleLemmas
+pub mod NameLemmas
+pub mod SectionLemmas
+pub mod KindLemmas
+pub mod SectionFacts
+pub mod SymbolFacts

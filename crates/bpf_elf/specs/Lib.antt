@@ -1,0 +1,11 @@
+pub mod Rules
+pub mod Numbers
+pub mod Header
+pub mod Names
+pub mod Kinds
+pub mod Sections
+pub mod Symbols
+pub mod Relocations
+pub mod ElfRules
+pub mod Headers
+pub mod SectionHeaders

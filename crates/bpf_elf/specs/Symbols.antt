@@ -1,0 +1,112 @@
+-- The symbols of a file, and the rules on them (System V ABI, "Symbol Table").
+use Rattle.std.specs.Prelude.{ℕ, ◌+◌, ◌*◌, ◌/◌, ◌%◌, ◌==◌, ◌||◌, ◌&&◌, not, nat_lt, nat_le, Bool, List, [], ◌∷◌, length, slice_index}
+use Rattle.bpf_elf.specs.declared.kinds.Kind.TheVariants.{Data, Symbols}
+use Rattle.bpf_elf.specs.declared.fault.ElfCause.TheVariants as cause
+use Rattle.bpf_elf.specs.Rules.{Rule, rule}
+use Rattle.bpf_elf.specs.Numbers.{half, word, long, count, place, offset, size, link, entry_size}
+use Rattle.bpf_elf.specs.Names.{string_at}
+use Rattle.bpf_elf.specs.Kinds.{is_kind}
+use Rattle.bpf_elf.specs.Sections.{content, kind, section_of, is_string_table, is_zero_at}
+
+-- special section indices: SHN_UNDEF, SHN_ABS and SHN_COMMON
+abbrev pub SHN_ABS : ℕ
+SHN_ABS = 0xfff1
+
+abbrev pub SHN_COMMON : ℕ
+SHN_COMMON = 0xfff2
+
+abbrev pub is_special : ℕ → Bool
+is_special section = section == 0 || section == SHN_ABS || section == SHN_COMMON
+
+-- STB_LOCAL and STT_FILE: binding and type are the halves of st_info
+abbrev pub is_local : ℕ → Bool
+is_local info = info / 16 == 0
+
+abbrev pub is_file : ℕ → Bool
+is_file info = info % 16 == 4
+
+-- the section that has the symbols, each of 24 bytes; 0 if there is none
+abbrev pub symbols : List ℕ → ℕ
+symbols b = section_of b Symbols (count b)
+
+abbrev pub symbol_count : List ℕ → ℕ
+symbol_count b = size b (symbols b) / 24
+
+abbrev pub symbol_place : List ℕ → ℕ → ℕ
+symbol_place b j = offset b (symbols b) + 24 * j
+
+-- the bytes with the names of the symbols
+abbrev pub symbol_strings : List ℕ → List ℕ
+symbol_strings b = content b (link b (symbols b))
+
+-- st_name, st_info, st_other, st_shndx, st_value and st_size
+abbrev pub st_name : List ℕ → ℕ → ℕ
+st_name b j = word b (symbol_place b j)
+
+abbrev pub st_info : List ℕ → ℕ → ℕ
+st_info b j = slice_index b (symbol_place b j + 4)
+
+abbrev pub st_other : List ℕ → ℕ → ℕ
+st_other b j = slice_index b (symbol_place b j + 5)
+
+abbrev pub st_shndx : List ℕ → ℕ → ℕ
+st_shndx b j = half b (symbol_place b j + 6)
+
+abbrev pub st_value : List ℕ → ℕ → ℕ
+st_value b j = long b (symbol_place b j + 8)
+
+abbrev pub st_size : List ℕ → ℕ → ℕ
+st_size b j = long b (symbol_place b j + 16)
+
+-- the name of a symbol
+abbrev pub symbol_name : List ℕ → ℕ → List ℕ
+symbol_name b j = string_at (symbol_strings b) (st_name b j)
+
+-- a section of code or data
+abbrev pub is_data : List ℕ → ℕ → Bool
+is_data b i = is_kind Data (kind b i)
+
+-- the name of a source file: it is local, and in no section
+abbrev pub is_file_name : ℕ → ℕ → Bool
+is_file_name info section = is_local info && (is_file info && section == SHN_ABS)
+
+-- a canonical file has the symbol: it is in code or data or in no section, and isn't the name of a source file
+abbrev pub is_kept : List ℕ → ℕ → ℕ → Bool
+is_kept b info section = (is_special section || is_data b section) && not (is_file_name info section)
+
+abbrev pub is_kept_symbol : List ℕ → ℕ → Bool
+is_kept_symbol b j = is_kept b (st_info b j) (st_shndx b j)
+
+-- the section index is special or that of a section; a symbol that isn't local is in code or data
+abbrev pub has_section : List ℕ → ℕ → ℕ → Bool
+has_section b info section = is_special section || (nat_lt section (count b) && (is_local info || is_data b section))
+
+-- a symbol of code or data is inside it
+abbrev pub is_within : List ℕ → ℕ → ℕ → ℕ → Bool
+is_within b section value size_of = is_special section || (not (is_data b section) || nat_le (value + size_of) (size b section))
+
+-- the symbols have names, and the first one is zero
+abbrev pub first_symbol_rules : List ℕ → List Rule
+first_symbol_rules b =
+    rule cause.SymbolNames (place b (symbols b) + 40) (nat_lt (link b (symbols b)) (count b) && is_string_table b (link b (symbols b)))
+    ∷ rule cause.FirstSymbol (offset b (symbols b)) (is_zero_at b (offset b (symbols b)) 24)
+    ∷ []
+
+-- the symbol table is whole
+abbrev pub symbol_form_rules : List ℕ → List Rule
+symbol_form_rules b =
+    rule cause.SymbolTableSize (place b (symbols b) + 32) (nat_le 24 (size b (symbols b)) && size b (symbols b) % 24 == 0)
+    ∷ rule cause.SymbolEntrySize (place b (symbols b) + 56) (entry_size b (symbols b) == 24)
+    ∷ first_symbol_rules b
+
+-- there is a symbol table
+abbrev pub symbol_table_rules : List ℕ → List Rule
+symbol_table_rules b = rule cause.NoSymbols 40 (nat_lt 0 (symbols b)) ∷ symbol_form_rules b
+
+-- a symbol has a name and a section, and is inside it
+abbrev pub symbol_rules : List ℕ → ℕ → List Rule
+symbol_rules b j =
+    rule cause.SymbolName (symbol_place b j) (nat_lt (st_name b j) (length (symbol_strings b)))
+    ∷ rule cause.SymbolSection (symbol_place b j + 6) (has_section b (st_info b j) (st_shndx b j))
+    ∷ rule cause.SymbolPlace (symbol_place b j + 8) (is_within b (st_shndx b j) (st_value b j) (st_size b j))
+    ∷ []

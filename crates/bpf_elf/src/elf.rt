@@ -1,0 +1,218 @@
+//! An object file that keeps all rules.
+
+ghost use Rattle.std.specs.Prelude.{◌≡◌, ◌<◌, true, MatchResult};
+ghost use Rattle.bpf_elf.specs.Rules.{AllHold, IsFirstFault};
+ghost use Rattle.bpf_elf.specs.Numbers.{count, flags_of, link, names, order_of};
+ghost use Rattle.bpf_elf.specs.Kinds.{is_kind};
+ghost use Rattle.bpf_elf.specs.Sections as sections;
+ghost use Rattle.bpf_elf.specs.Symbols as symbols;
+ghost use Rattle.bpf_elf.specs.Relocations as relocations;
+ghost use Rattle.bpf_elf.specs.ElfRules.{IsElf, elf_rules, all_section_rules, all_symbol_rules};
+ghost use Rattle.bpf_elf.specs.Headers.{IsHeaderOf, HasSections, HasKeptSymbols};
+ghost use Rattle.bpf_elf.specs.SectionHeaders.{IsSectionHeader, IsSymbol, IsRelocation};
+ghost use Rattle.bpf_elf.specs.declared.kinds.Kind.TheVariants.{Relocations};
+
+use crate::fault::ElfFault;
+use crate::header::{Header, read_header};
+use crate::kinds::Kind;
+use crate::names::string_at;
+use crate::relocations::{Relocation, check_relocations, relocation_at, relocation_count};
+use crate::section_checks::{check_sections, check_table, check_targets, section_of};
+use crate::sections::{SectionHeader, content, kind, name, section_header};
+use crate::symbols::{
+    Symbol, SymbolTable, check_symbols, is_kept, read_symbol_table, symbol_at, symbol_strings,
+};
+use bpf_words::{Order, get32};
+use std::marker::Model;
+
+/// Checks the sections.
+fn check_all_sections(bytes: &[u8], header: Header) -> Result<(), ElfFault>
+    requires { IsHeaderOf bytes.now header }
+    ensures { MatchResult result
+        (λ _. AllHold (all_section_rules bytes.now) × HasSections bytes.now header)
+        (IsFirstFault (all_section_rules bytes.now)) }
+{
+    check_table(bytes, header)?;
+    check_sections(bytes, header)?;
+    check_targets(bytes, header)?;
+    Ok(())
+}
+
+/// Checks the symbols and relocations.
+fn check_all_symbols(bytes: &[u8], header: Header) -> Result<SymbolTable, ElfFault>
+    requires { HasSections bytes.now header }
+    ensures { MatchResult result
+        (λ table. AllHold (all_symbol_rules bytes.now) × HasKeptSymbols bytes.now header table)
+        (IsFirstFault (all_symbol_rules bytes.now)) }
+{
+    let table = read_symbol_table(bytes, header)?;
+    check_symbols(bytes, header, table)?;
+    check_relocations(bytes, header, table)?;
+    Ok(table)
+}
+
+/// An object file for BPF that keeps all rules. It borrows the bytes of the file, and in contracts
+/// it is these bytes. Sections, symbols and rows of relocations are numbered from 0, as in the file.
+#[derive(Drop)]
+pub struct Elf<'a> {
+    bytes: &'a [u8],
+    header: Header,
+    symbols: SymbolTable,
+}
+
+impl<'a> Model for Elf<'a> {
+    ghost use Rattle.std.specs.Prelude.{ℕ, List};
+    ghost use Rattle.bpf_elf.specs.ElfRules.{IsElf};
+    ghost use Rattle.bpf_elf.specs.Headers.{HasKeptSymbols};
+
+    ghost Value = { List ℕ };
+
+    ghost view = { λ e. e.bytes.now };
+
+    ghost invariant = { λ e. IsElf e.bytes.now × HasKeptSymbols e.bytes.now e.header e.symbols };
+}
+
+impl<'a> Elf<'a> {
+    /// Checks a file, and copies nothing.
+    ///
+    /// # Errors
+    ///
+    /// The first rule that the file breaks, and where.
+    pub fn read(bytes: &'a [u8]) -> Result<Elf<'a>, ElfFault>
+        ensures { MatchResult result
+            (λ elf. IsElf bytes.now × (elf ≡ bytes.now))
+            (IsFirstFault (elf_rules bytes.now)) }
+    {
+        let header = read_header(bytes)?;
+        check_all_sections(bytes, header)?;
+        let symbols = check_all_symbols(bytes, header)?;
+        Ok(Elf {
+            bytes,
+            header,
+            symbols,
+        })
+    }
+
+    /// The bytes of the file.
+    pub fn bytes(&self) -> &[u8]
+        ensures value { result.now ≡ self.now }
+        ensures rules { IsElf self.now }
+    {
+        self.bytes
+    }
+
+    /// The byte order.
+    pub fn order(&self) -> Order
+        ensures { result ≡ order_of self.now }
+    {
+        self.header.order
+    }
+
+    /// e_flags.
+    pub fn flags(&self) -> u32
+        ensures { result ≡ flags_of self.now }
+    {
+        get32(self.header.order, self.bytes, 48)
+    }
+
+    /// The number of sections, with section 0, which is none.
+    pub fn section_count(&self) -> usize
+        ensures { result ≡ count self.now }
+    {
+        self.header.count
+    }
+
+    /// The header of a section.
+    pub fn section(&self, i: usize) -> SectionHeader
+        requires { i < count self.now }
+        ensures { IsSectionHeader self.now i result }
+    {
+        section_header(self.bytes, self.header, i)
+    }
+
+    /// The name of a section, without its NUL.
+    pub fn name(&self, i: usize) -> &[u8]
+        requires { i < count self.now }
+        ensures { result.now ≡ sections.name self.now i }
+    {
+        name(self.bytes, self.header, i)
+    }
+
+    /// The bytes of a section in the file: none if it has the type SHT_NOBITS.
+    pub fn content(&self, i: usize) -> &[u8]
+        requires { i < count self.now }
+        ensures { result.now ≡ sections.content self.now i }
+    {
+        content(self.bytes, self.header, i)
+    }
+
+    /// The kind of a section. Section 0 has none, every other one has.
+    pub fn kind(&self, i: usize) -> Option<Kind>
+        requires { i < count self.now }
+        ensures { result ≡ sections.kind self.now i }
+    {
+        kind(self.bytes, self.header, i)
+    }
+
+    /// The first section of a kind, or 0 if there is none.
+    pub fn section_of(&self, wanted: Kind) -> usize
+        ensures { result ≡ sections.section_of self.now wanted (count self.now) }
+    {
+        section_of(self.bytes, self.header, wanted, self.header.count)
+    }
+
+    /// The number of symbols, with symbol 0, which is zero.
+    pub fn symbol_count(&self) -> usize
+        ensures { result ≡ symbols.symbol_count self.now }
+    {
+        self.symbols.count
+    }
+
+    /// A symbol.
+    pub fn symbol(&self, j: usize) -> Symbol
+        requires { j < symbols.symbol_count self.now }
+        ensures { IsSymbol self.now j result }
+    {
+        symbol_at(self.bytes, self.header, self.symbols, j)
+    }
+
+    /// The name of a symbol, without its NUL.
+    pub fn symbol_name(&self, j: usize) -> &[u8]
+        requires { j < symbols.symbol_count self.now }
+        ensures { result.now ≡ symbols.symbol_name self.now j }
+    {
+        let offset = self.symbol(j).name_offset as usize;
+        string_at(
+            symbol_strings(self.bytes, self.header, self.symbols),
+            offset,
+        )
+    }
+
+    /// Whether the canonical file has a symbol: all but the names of source files, and local ones of
+    /// sections that are not code or data.
+    pub fn is_kept_symbol(&self, j: usize) -> bool
+        requires { j < symbols.symbol_count self.now }
+        ensures { result ≡ symbols.is_kept_symbol self.now j }
+    {
+        is_kept(self.bytes, self.header, self.symbol(j))
+    }
+
+    /// How many rows a table of relocations has.
+    pub fn relocation_count(&self, i: usize) -> usize
+        requires there { i < count self.now }
+        requires kind { is_kind Relocations (sections.kind self.now i) ≡ true }
+        ensures { result ≡ relocations.relocation_count self.now i }
+    {
+        relocation_count(self.bytes, self.header, i)
+    }
+
+    /// A row of a table of relocations.
+    pub fn relocation(&self, i: usize, k: usize) -> Relocation
+        requires there { i < count self.now }
+        requires kind { is_kind Relocations (sections.kind self.now i) ≡ true }
+        requires row { k < relocations.relocation_count self.now i }
+        ensures { IsRelocation self.now i k result }
+    {
+        relocation_at(self.bytes, self.header, i, k)
+    }
+}
