@@ -20,9 +20,10 @@ abbrev pub all_symbol_rules : List ℕ → List Rule
 all_symbol_rules b =
     symbol_table_rules b ++ (each (symbol_count b) (symbol_rules b) ++ each (count b) (relocation_table_rules b))
 
+-- all rules of a file, in the order in which they are checked
 abbrev pub elf_rules : List ℕ → List Rule
 elf_rules b = head_rules b ++ (all_section_rules b ++ all_symbol_rules b)
 
--- the file keeps them all
+-- the file keeps all rules
 abbrev pub IsElf : List ℕ → Type 0
 IsElf b = AllHold (elf_rules b)

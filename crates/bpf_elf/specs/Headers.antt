@@ -1,4 +1,3 @@
--- Only private contracts cite this file.
 -- What the numbers of a header that was read mean, and what has been checked of a file so far.
 use Rattle.std.specs.Prelude.{◌≡◌, ◌⊎◌, ℕ, ◌+◌, ◌*◌, ◌<◌, ◌≤◌, true, List, length}
 use Rattle.bpf_elf.specs.declared.{header.Header.Header, symbols.SymbolTable.SymbolTable}
@@ -62,7 +61,7 @@ pub record HasSymbols (b : List ℕ) (h : Header) (t : SymbolTable) : Type 0 whe
   pub count : t.count ≡ symbol_count b
   pub names : t.names ≡ link b (symbols b)
 
--- and each symbol has a name, and a section index that it may have
+-- all sections and symbols have been checked: each symbol has a name, and a section index that it may have
 pub record HasKeptSymbols (b : List ℕ) (h : Header) (t : SymbolTable) : Type 0 where
   pub table : HasSymbols b h t
   pub named : (j : ℕ) → j < symbol_count b → st_name b j < length (symbol_strings b)

@@ -27,17 +27,19 @@ word b i = word32_at (order_of b) b i
 abbrev pub long : List ℕ → ℕ → ℕ
 long b i = word64_at (order_of b) b i
 
--- e_shoff, e_shnum and e_shstrndx: where the section header table is, how many entries it has, and which section has the names
+-- where the section header table is: e_shoff
 abbrev pub table : List ℕ → ℕ
 table b = long b 40
 
+-- how many sections a file has, with section 0: e_shnum
 abbrev pub count : List ℕ → ℕ
 count b = half b 60
 
+-- which section has the names of sections: e_shstrndx
 abbrev pub names : List ℕ → ℕ
 names b = half b 62
 
--- e_flags
+-- the flags of the processor: e_flags
 abbrev pub flags_of : List ℕ → ℕ
 flags_of b = word b 48
 

@@ -8,10 +8,11 @@ use Rattle.bpf_elf.specs.Kinds.{is_kind}
 use Rattle.bpf_elf.specs.Sections.{kind}
 use Rattle.bpf_elf.specs.Symbols.{symbols, symbol_count, is_kept_symbol}
 
--- how many rows a table has, and where each is
+-- how many rows a table of relocations has
 abbrev pub relocation_count : List ℕ → ℕ → ℕ
 relocation_count b i = size b i / 16
 
+-- where each of them is
 abbrev pub relocation_place : List ℕ → ℕ → ℕ → ℕ
 relocation_place b i k = offset b i + 16 * k
 

@@ -29,6 +29,7 @@ is_file info = info % 16 == 4
 abbrev pub symbols : List ℕ → ℕ
 symbols b = section_of b Symbols (count b)
 
+-- how many symbols there are, with the first one, which is zero
 abbrev pub symbol_count : List ℕ → ℕ
 symbol_count b = size b (symbols b) / 24
 
@@ -74,6 +75,7 @@ is_file_name info section = is_local info && (is_file info && section == SHN_ABS
 abbrev pub is_kept : List ℕ → ℕ → ℕ → Bool
 is_kept b info section = (is_special section || is_data b section) && not (is_file_name info section)
 
+-- a canonical file has the symbol with this index
 abbrev pub is_kept_symbol : List ℕ → ℕ → Bool
 is_kept_symbol b j = is_kept b (st_info b j) (st_shndx b j)
 
