@@ -12,6 +12,7 @@ import pytest
 
 from tests import TOP
 from tests.judges import loaders, objects
+from tests.needs import need
 from tests.reference import object_reference
 
 Canon = Callable[[bytes], bytes]
@@ -23,14 +24,12 @@ class Refused(Exception):
     """A file has no canonical form."""
 
 
-def need(*tools: str) -> None:
-    """Skip a test that lacks a tool of Debian. Under CI, a tool that apt has may not be missing."""
-    missing = [it for it in tools if not objects.is_there(it)]
-    if missing and os.environ.get("CI") == "true":
-        asked = subprocess.run([TOP / "tests/packages", "offered", *missing], capture_output=True, text=True, check=False)
-        assert not asked.stdout, f"apt has {asked.stdout.split()}"
-    if missing:
-        pytest.skip(f"there is no {' and no '.join(missing)}")
+@pytest.hookimpl(tryfirst=True)
+def pytest_collection_modifyitems(items: list[pytest.Item]) -> None:
+    """The judges take minutes together."""
+    for item in items:
+        if Path(__file__).parent in item.path.parents:
+            item.add_marker("slow")
 
 
 @pytest.fixture(scope="session")

@@ -3,8 +3,6 @@
 from __future__ import annotations
 
 import functools
-import importlib.util
-import shutil
 import subprocess
 from dataclasses import dataclass
 from pathlib import Path
@@ -79,11 +77,3 @@ def changed(data: bytes, tool: str, folder: Path) -> bytes:
     line = [{"IN": str(first), "OUT": str(second)}.get(it, it) for it in TOOLS[tool]]
     subprocess.run(line, check=True, capture_output=True)
     return second.read_bytes()
-
-
-def is_there(tool: str) -> bool:
-    """Whether a command, a library or a module of tests/packages.txt is there."""
-    places = {"libbpf": "/usr/include/bpf/libbpf.h", "github.com/cilium/ebpf": str(INSTALLED.parent / "go.mod")}
-    if tool == "elftools":
-        return importlib.util.find_spec(tool) is not None
-    return Path(places[tool]).exists() if tool in places else shutil.which(tool) is not None

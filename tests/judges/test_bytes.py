@@ -10,7 +10,8 @@ import pytest
 
 from tests import TOP
 from tests.judges import objects
-from tests.judges.conftest import Canon, need
+from tests.judges.conftest import Canon
+from tests.needs import need
 from tests.objects.bases import SOURCES, compile_source
 
 

@@ -14,8 +14,9 @@ import pytest
 
 from tests import TOP
 from tests.judges import objects
-from tests.judges.conftest import Canon, Refused, Tally, need
+from tests.judges.conftest import Canon, Refused, Tally
 from tests.judges.loaders import Loader, is_accepted
+from tests.needs import need
 from tests.objects.bases import all_bases
 from tests.objects.changes import Base, Changed, changed
 

@@ -12,8 +12,9 @@ from typing import Any, Iterator
 
 import pytest
 
-from tests.judges.conftest import Canon, Tally, each, need
+from tests.judges.conftest import Canon, Tally, each
 from tests.judges.objects import all_made
+from tests.needs import need
 
 CLONE_NEWNS = 0x20000
 PROGRAM = ("name", "type", "tag", "gpl_compatible", "bytes_xlated")

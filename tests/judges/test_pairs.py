@@ -9,7 +9,8 @@ from typing import Callable
 import pytest
 
 from tests.judges import objects
-from tests.judges.conftest import Canon, Refused, need
+from tests.judges.conftest import Canon, Refused
+from tests.needs import need
 from tests.objects.btf_changes import extension_of, set_extension
 from tests.objects.btf_file import LINES
 from tests.objects.elf_file import NOBITS, ElfFile, Symbol

@@ -8,9 +8,10 @@ from typing import Any, Iterator
 
 import pytest
 
-from tests.judges.conftest import Canon, Refused, Tally, each, need
+from tests.judges.conftest import Canon, Refused, Tally, each
 from tests.judges.objects import all_made
 from tests.judges.tools import ask, without_file
+from tests.needs import need
 
 SAY_THE_SAME = {
     "llvm-objdump -d -r": ("llvm-objdump", "-d", "-r"),
