@@ -12,7 +12,7 @@ from dataclasses import dataclass
 from functools import cached_property
 from typing import Iterator, NamedTuple, Optional
 
-MAX_FILE = 64 << 20
+MAX_FILE, MAX_NAME = 64 << 20, 1024
 ELF_SIZE, ROW_SIZE, SYMBOL_SIZE, RELOCATION_SIZE = 64, 64, 24, 16
 HEADER_FORMAT, ROW_FORMAT, SYMBOL_FORMAT, RELOCATION_FORMAT = "16sHHIQQQIHHHHHH", "IIQQQQIIQQ", "IBBHQQ", "QQ"
 ET_REL, EM_BPF = 1, 247
@@ -109,6 +109,11 @@ class Relocation(NamedTuple):
 
 def string_at(strings: bytes, offset: int) -> bytes:
     return strings[offset : strings.index(b"\0", offset)]
+
+
+def is_section_name(strings: bytes, offset: int) -> bool:
+    """Whether the name of a section may be at an offset of a string table."""
+    return offset < len(strings) and len(string_at(strings, offset)) <= MAX_NAME
 
 
 def is_reserved(name: bytes) -> bool:
@@ -247,7 +252,7 @@ def section_faults(elf: Elf) -> Iterator[Fault]:
     for number, row in enumerate(elf.rows[1:], 1):
         place = elf.place(number)
         yield from rule("SectionCut", place + 24, row.offset + row.file_size <= len(elf.data))
-        yield from rule("SectionName", place, row.name < len(names))
+        yield from rule("SectionName", place, is_section_name(names, row.name))
         kind = kind_of(string_at(names, row.name), row)
         yield from rule("SectionKind", place + 4, kind is not None)
         yield from rule("SectionTwice", place + 4, kind not in found)

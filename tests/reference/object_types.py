@@ -11,7 +11,7 @@ from itertools import zip_longest
 from typing import Any, Iterator, NamedTuple
 
 from tests.reference import btf_reference
-from tests.reference.object_elf import Elf, Fault, Kind, is_reserved, rule, string_at
+from tests.reference.object_elf import Elf, Fault, Kind, is_reserved, is_section_name, rule, string_at
 
 MAX_TYPES = 15 << 20
 MAGIC, VERSION, HEADER_SIZE = 0xEB9F, 1, 32
@@ -144,7 +144,7 @@ def part_faults(elf: Elf, extension: Extension, part: Part, types: Types) -> Ite
     yield from rule("ExtensionRecordSize", part.place, part.length == 0 or size == WORD * part.words)
     for group in part.groups(elf):
         yield from rule("ExtensionGroup", group.place, group.end <= part.place + part.length and group.num_info > 0)
-        yield from rule("ExtensionString", group.place, group.sec_name_off < len(types.strings))
+        yield from rule("ExtensionString", group.place, is_section_name(types.strings, group.sec_name_off))
 
 
 def line_faults(functions: list[Group], lines: list[Group], types: Types) -> Iterator[Fault]:
