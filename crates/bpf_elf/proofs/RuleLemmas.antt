@@ -4,49 +4,49 @@ use Rattle.std.proofs.lemmas.Bool.{cases_lt}
 use Rattle.std.proofs.lemmas.Bool.Decides.{nat_tests}
 use Rattle.std.specs.Prelude.{Result, MatchResult}
 use Rattle.bpf_elf.specs.declared.fault.{ElfCause.ElfCause, ElfFault.ElfFault}
-use Rattle.bpf_elf.specs.Rules.{Rule, rule, Broken, broken, first_broken, AllHold, Checks, each, first_of}
+use Rattle.bpf_elf.specs.Rules.{Rule, ElfRule, rule, Broken, broken, first_broken, AllHold, Checks, each, first_of}
 
-after_one : (x : Bool) (f : Broken) (a b c : Option Broken) → cond x a (Some f) ≡ None → (a ≡ None → b ≡ c) → cond x b (Some f) ≡ c
+after_one : {C : Type 0} (x : Bool) (f : Broken C) (a b c : Option (Broken C)) → cond x a (Some f) ≡ None → (a ≡ None → b ≡ c) → cond x b (Some f) ≡ c
 after_one true f a b c h next = next h
 after_one false f a b c h next = cc
 
 -- what comes after rules that hold decides
-pub after_holding : (xs ys : List Rule) → AllHold xs → first_broken (xs ++ ys) ≡ first_broken ys
+pub after_holding : {C : Type 0} (xs ys : List (Rule C)) → AllHold xs → first_broken (xs ++ ys) ≡ first_broken ys
 after_holding [] ys h = refl
 after_holding (r ∷ rs) ys h =
     after_one r.holds (broken r.cause r.pos) (first_broken rs) (first_broken (rs ++ ys)) (first_broken ys) h (after_holding rs ys)
 
-before_one : (x : Bool) (f g : Broken) (a b : Option Broken) → cond x a (Some f) ≡ Some g → (a ≡ Some g → b ≡ Some g) → cond x b (Some f) ≡ Some g
+before_one : {C : Type 0} (x : Bool) (f g : Broken C) (a b : Option (Broken C)) → cond x a (Some f) ≡ Some g → (a ≡ Some g → b ≡ Some g) → cond x b (Some f) ≡ Some g
 before_one true f g a b h next = next h
 before_one false f g a b h next = h
 
 -- a rule that is broken stays the first one
-pub stays_first : (xs ys : List Rule) (f : Broken) → first_broken xs ≡ Some f → first_broken (xs ++ ys) ≡ Some f
+pub stays_first : {C : Type 0} (xs ys : List (Rule C)) (f : Broken C) → first_broken xs ≡ Some f → first_broken (xs ++ ys) ≡ Some f
 stays_first [] ys f h = cc
 stays_first (r ∷ rs) ys f h =
     before_one r.holds (broken r.cause r.pos) f (first_broken rs) (first_broken (rs ++ ys)) h (stays_first rs ys f)
 
-pub both_hold : (xs ys : List Rule) → AllHold xs → AllHold ys → AllHold (xs ++ ys)
+pub both_hold : {C : Type 0} (xs ys : List (Rule C)) → AllHold xs → AllHold ys → AllHold (xs ++ ys)
 both_hold xs ys h k = after_holding xs ys h ∙ k
 
-first_one : (x : Bool) (f : Broken) (a b : Option Broken) → cond x a (Some f) ≡ None → (a ≡ None → b ≡ None) → cond x b (Some f) ≡ None
+first_one : {C : Type 0} (x : Bool) (f : Broken C) (a b : Option (Broken C)) → cond x a (Some f) ≡ None → (a ≡ None → b ≡ None) → cond x b (Some f) ≡ None
 first_one true f a b h next = next h
 first_one false f a b h next = cc
 
-pub first_hold : (xs ys : List Rule) → AllHold (xs ++ ys) → AllHold xs
+pub first_hold : {C : Type 0} (xs ys : List (Rule C)) → AllHold (xs ++ ys) → AllHold xs
 first_hold [] ys h = refl
 first_hold (r ∷ rs) ys h =
     first_one r.holds (broken r.cause r.pos) (first_broken (rs ++ ys)) (first_broken rs) h (first_hold rs ys)
 
-pub rest_hold : (xs ys : List Rule) → AllHold (xs ++ ys) → AllHold ys
+pub rest_hold : {C : Type 0} (xs ys : List (Rule C)) → AllHold (xs ++ ys) → AllHold ys
 rest_hold xs ys h = sym (after_holding xs ys (first_hold xs ys h)) ∙ h
 
 -- ---- rules of each of a sequence
 
-pub each_more : (n : ℕ) (rules : ℕ → List Rule) → AllHold (each n rules) → AllHold (rules n) → AllHold (each (n + 1) rules)
+pub each_more : {C : Type 0} (n : ℕ) (rules : ℕ → List (Rule C)) → AllHold (each n rules) → AllHold (rules n) → AllHold (each (n + 1) rules)
 each_more n rules h k = rw add-one (both_hold (each n rules) (rules n) h k)
 
-each_stays : (n m : ℕ) (rules : ℕ → List Rule) (f : Broken) → m ≤ n → first_broken (each m rules) ≡ Some f → first_broken (each n rules) ≡ Some f
+each_stays : {C : Type 0} (n m : ℕ) (rules : ℕ → List (Rule C)) (f : Broken C) → m ≤ n → first_broken (each m rules) ≡ Some f → first_broken (each n rules) ≡ Some f
 each_stays zero m rules f le h =
     let same : m ≡ zero = omega arith in
     subst (λ (k : ℕ). first_broken (each k rules) ≡ Some f) same h
@@ -59,14 +59,14 @@ each_stays (suc n) m rules f le h =
     ]
 
 -- the first rule that one of them breaks is the first of all
-pub each_fault : (n i : ℕ) (rules : ℕ → List Rule) (f : Broken) → i < n → AllHold (each i rules) → first_broken (rules i) ≡ Some f
+pub each_fault : {C : Type 0} (n i : ℕ) (rules : ℕ → List (Rule C)) (f : Broken C) → i < n → AllHold (each i rules) → first_broken (rules i) ≡ Some f
     → first_broken (each n rules) ≡ Some f
 each_fault n i rules f lt h k =
     let here : first_broken (each (suc i) rules) ≡ Some f = after_holding (each i rules) (rules i) h ∙ k in
     each_stays n (suc i) rules f (omega arith) here
 
 -- each of them holds
-pub each_holds : (n i : ℕ) (rules : ℕ → List Rule) → i < n → AllHold (each n rules) → AllHold (rules i)
+pub each_holds : {C : Type 0} (n i : ℕ) (rules : ℕ → List (Rule C)) → i < n → AllHold (each n rules) → AllHold (rules i)
 each_holds zero i rules lt h = absurd (omega (arith, lt))
 each_holds (suc n) i rules lt h =
     elim (cases_lt i n) [
@@ -121,21 +121,21 @@ first_of_there (suc n) i test e some =
 
 -- ---- lists of rules that are checked one after the other
 
-pub then_checks : {A : Type 0} (xs ys : List Rule) (result : Result A ElfFault) → AllHold xs → Checks ys result → Checks (xs ++ ys) result
+pub then_checks : {A : Type 0} (xs ys : List ElfRule) (result : Result A ElfFault) → AllHold xs → Checks ys result → Checks (xs ++ ys) result
 then_checks xs ys result h k =
-    subst (λ (o : Option Broken). MatchResult result (λ _. o ≡ None) (λ f. o ≡ Some (broken f.cause f.pos))) (sym (after_holding xs ys h)) k
+    subst (λ (o : Option (Broken ElfCause)). MatchResult result (λ _. o ≡ None) (λ f. o ≡ Some (broken f.cause f.pos))) (sym (after_holding xs ys h)) k
 
 -- the first rule that is broken after rules that hold
-pub next_fault : (xs ys : List Rule) (f : Broken) → AllHold xs → first_broken ys ≡ Some f → first_broken (xs ++ ys) ≡ Some f
+pub next_fault : {C : Type 0} (xs ys : List (Rule C)) (f : Broken C) → AllHold xs → first_broken ys ≡ Some f → first_broken (xs ++ ys) ≡ Some f
 next_fault xs ys f h k = after_holding xs ys h ∙ k
 
-some_none : (f : Broken) → Some f ≡ None → ⊥
+some_none : {C : Type 0} (f : Broken C) → Some f ≡ None → ⊥
 some_none f e = cc
 
-one_holds : (x : Bool) (f : Broken) (a : Option Broken) → cond x a (Some f) ≡ None → (x ≡ true) × (a ≡ None)
+one_holds : {C : Type 0} (x : Bool) (f : Broken C) (a : Option (Broken C)) → cond x a (Some f) ≡ None → (x ≡ true) × (a ≡ None)
 one_holds true f a h = (refl, h)
 one_holds false f a h = absurd (some_none f h)
 
 -- the first of a list of rules that hold, and the others
-pub head_holds : (cause : ElfCause) (pos : ℕ) (holds : Bool) (rs : List Rule) → AllHold (rule cause pos holds ∷ rs) → (holds ≡ true) × AllHold rs
+pub head_holds : {C : Type 0} (cause : C) (pos : ℕ) (holds : Bool) (rs : List (Rule C)) → AllHold (rule cause pos holds ∷ rs) → (holds ≡ true) × AllHold rs
 head_holds cause pos holds rs h = one_holds holds (broken cause pos) (first_broken rs) h

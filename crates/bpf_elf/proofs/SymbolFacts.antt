@@ -4,7 +4,7 @@ use Rattle.std.specs.Prelude.{◌⊎◌, nat_lt}
 use Rattle.std.proofs.lemmas.Bool.{ltb-true}
 use Rattle.bpf_elf.specs.declared.{header.Header.Header, symbols.SymbolTable.SymbolTable}
 use Rattle.bpf_elf.specs.declared.fault.ElfCause.TheVariants as cause
-use Rattle.bpf_elf.specs.Rules.{Rule, AllHold, each, rule}
+use Rattle.bpf_elf.specs.Rules.{ElfRule, AllHold, each, rule}
 use Rattle.bpf_elf.specs.Numbers.{count}
 use Rattle.bpf_elf.specs.Symbols.{symbol_count, symbol_rules, symbol_place, symbol_strings, st_name, st_info, st_shndx, st_value, st_size, is_special, is_local, is_data, has_section, is_within}
 use Rattle.bpf_elf.specs.Headers.{HasSection, HasSymbols, HasKeptSymbols}
@@ -22,10 +22,10 @@ of_section b info section h =
       | inr there ↦ inr (ltb-true _ _ there)
     ]
 
-abbrev place_rules : List ℕ → ℕ → List Rule
+abbrev place_rules : List ℕ → ℕ → List ElfRule
 place_rules b j = rule cause.SymbolPlace (symbol_place b j + 8) (is_within b (st_shndx b j) (st_value b j) (st_size b j)) ∷ []
 
-abbrev later_rules : List ℕ → ℕ → List Rule
+abbrev later_rules : List ℕ → ℕ → List ElfRule
 later_rules b j = rule cause.SymbolSection (symbol_place b j + 6) (has_section b (st_info b j) (st_shndx b j)) ∷ place_rules b j
 
 name_holds : (b : List ℕ) (j : ℕ) → AllHold (symbol_rules b j) → (nat_lt (st_name b j) (length (symbol_strings b)) ≡ true) × AllHold (later_rules b j)

@@ -2,7 +2,7 @@
 use Rattle.std.specs.Prelude.{ℕ, ◌+◌, ◌*◌, ◌==◌, ◌||◌, ◌&&◌, nat_lt, nat_le, List, [], ◌∷◌, length, slice_index}
 use Rattle.bpf_words.specs.{declared.Order.TheVariants.Little, Words.word32_at}
 use Rattle.bpf_elf.specs.declared.fault.ElfCause.TheVariants as cause
-use Rattle.bpf_elf.specs.Rules.{Rule, rule}
+use Rattle.bpf_elf.specs.Rules.{ElfRule, rule}
 use Rattle.bpf_elf.specs.Numbers.{half, word, table, count, names}
 
 -- 64 MiB
@@ -31,7 +31,7 @@ abbrev pub EM_BPF : ℕ
 EM_BPF = 247
 
 -- e_ident: a 64-bit ELF file of the current version, which states its byte order
-abbrev pub ident_rules : List ℕ → List Rule
+abbrev pub ident_rules : List ℕ → List ElfRule
 ident_rules b =
     rule cause.FileTooLarge FILE_LIMIT (nat_le (length b) FILE_LIMIT)
     ∷ rule cause.FileCut (length b) (nat_le 64 (length b))
@@ -42,7 +42,7 @@ ident_rules b =
     ∷ []
 
 -- where the section header table is, and which section has the names of sections
-abbrev pub place_rules : List ℕ → List Rule
+abbrev pub place_rules : List ℕ → List ElfRule
 place_rules b =
     rule cause.SectionCount 60 (nat_lt 0 (count b) && nat_lt (count b) SHN_LORESERVE)
     ∷ rule cause.SectionTable 40 (nat_le (table b + 64 * count b) (length b))
@@ -50,7 +50,7 @@ place_rules b =
     ∷ []
 
 -- the rest of the header: a relocatable file for BPF without segments
-abbrev pub header_rules : List ℕ → List Rule
+abbrev pub header_rules : List ℕ → List ElfRule
 header_rules b =
     rule cause.FileType 16 (half b 16 == ET_REL)
     ∷ rule cause.Machine 18 (half b 18 == EM_BPF)

@@ -2,7 +2,7 @@
 use Rattle.std.specs.Prelude.{ℕ, ◌+◌, ◌*◌, ◌/◌, ◌%◌, ◌^◌, ◌==◌, ◌&&◌, nat_lt, Bool, List, [], ◌∷◌, ◌++◌, if◌then◌else◌}
 use Rattle.bpf_elf.specs.declared.kinds.Kind.TheVariants.{Relocations}
 use Rattle.bpf_elf.specs.declared.fault.ElfCause.TheVariants as cause
-use Rattle.bpf_elf.specs.Rules.{Rule, rule, each}
+use Rattle.bpf_elf.specs.Rules.{ElfRule, rule, each}
 use Rattle.bpf_elf.specs.Numbers.{long, place, offset, size, link, entry_size}
 use Rattle.bpf_elf.specs.Kinds.{is_kind}
 use Rattle.bpf_elf.specs.Sections.{kind}
@@ -30,11 +30,11 @@ r_type b i k = long b (relocation_place b i k + 8) % 2 ^ 32
 abbrev pub is_relocation_symbol : List ℕ → ℕ → Bool
 is_relocation_symbol b j = nat_lt j (symbol_count b) && is_kept_symbol b j
 
-abbrev pub relocation_rules : List ℕ → ℕ → ℕ → List Rule
+abbrev pub relocation_rules : List ℕ → ℕ → ℕ → List ElfRule
 relocation_rules b i k = rule cause.RelocationSymbol (relocation_place b i k + 8) (is_relocation_symbol b (r_symbol b i k)) ∷ []
 
 -- a table is whole, and belongs to the symbols
-abbrev pub form_rules : List ℕ → ℕ → List Rule
+abbrev pub form_rules : List ℕ → ℕ → List ElfRule
 form_rules b i =
     rule cause.RelocationTableSize (place b i + 32) (size b i % 16 == 0)
     ∷ rule cause.RelocationEntrySize (place b i + 56) (entry_size b i == 16)
@@ -42,8 +42,8 @@ form_rules b i =
     ∷ []
 
 -- a table that is kept
-abbrev pub kept_table_rules : List ℕ → ℕ → List Rule
+abbrev pub kept_table_rules : List ℕ → ℕ → List ElfRule
 kept_table_rules b i = form_rules b i ++ each (relocation_count b i) (relocation_rules b i)
 
-abbrev pub relocation_table_rules : List ℕ → ℕ → List Rule
+abbrev pub relocation_table_rules : List ℕ → ℕ → List ElfRule
 relocation_table_rules b i = if is_kind Relocations (kind b i) then kept_table_rules b i else []

@@ -4,7 +4,7 @@ use Rattle.std.specs.{List.list_all, Str.bytes_eq}
 use Rattle.bpf_elf.specs.declared.kinds.Kind.{Kind}
 use Rattle.bpf_elf.specs.declared.kinds.Kind.TheVariants.{Data, Relocations}
 use Rattle.bpf_elf.specs.declared.fault.ElfCause.TheVariants as cause
-use Rattle.bpf_elf.specs.Rules.{Rule, rule, first_of}
+use Rattle.bpf_elf.specs.Rules.{ElfRule, rule, first_of}
 use Rattle.bpf_elf.specs.Numbers.{table, count, names, place, name_off, type, flags, offset, size, info}
 use Rattle.bpf_elf.specs.Names.{is_closed, string_at, is_section_name}
 use Rattle.bpf_elf.specs.Kinds.{SHT_STRTAB, SHT_NOBITS, SHT_REL, begins, kind_of, is_kind, is_single}
@@ -46,14 +46,14 @@ abbrev pub is_zero_at : List ℕ → ℕ → ℕ → Bool
 is_zero_at b pos n = list_all (λ c. c == 0) (take n (drop pos b))
 
 -- the first section header is zero, and there are names
-abbrev pub table_rules : List ℕ → List Rule
+abbrev pub table_rules : List ℕ → List ElfRule
 table_rules b =
     rule cause.FirstSection (table b) (is_zero_at b (table b) 64)
     ∷ rule cause.NamesTable 62 (is_string_table b (names b))
     ∷ []
 
 -- a section is in the file, and has a name and a kind
-abbrev pub section_rules : List ℕ → ℕ → List Rule
+abbrev pub section_rules : List ℕ → ℕ → List ElfRule
 section_rules b i =
     rule cause.SectionCut (place b i + 24) (is_inside b i)
     ∷ rule cause.SectionName (place b i) (is_section_name (content b (names b)) (name_off b i))
@@ -71,5 +71,5 @@ is_target b i target =
     nat_lt 0 target && nat_lt target (count b)
     && (is_table_name (name b i) (name b target) && (not (is_kind Relocations (kind b i)) || is_kind Data (kind b target)))
 
-abbrev pub target_rules : List ℕ → ℕ → List Rule
+abbrev pub target_rules : List ℕ → ℕ → List ElfRule
 target_rules b i = rule cause.RelocationTarget (place b i + 44) (not (type b i == SHT_REL) || is_target b i (info b i)) ∷ []

@@ -2,7 +2,7 @@
 use Rattle.std.specs.Prelude.{ℕ, ◌+◌, ◌*◌, ◌/◌, ◌%◌, ◌==◌, ◌||◌, ◌&&◌, not, nat_lt, nat_le, Bool, List, [], ◌∷◌, length, slice_index}
 use Rattle.bpf_elf.specs.declared.kinds.Kind.TheVariants.{Data, Symbols}
 use Rattle.bpf_elf.specs.declared.fault.ElfCause.TheVariants as cause
-use Rattle.bpf_elf.specs.Rules.{Rule, rule}
+use Rattle.bpf_elf.specs.Rules.{ElfRule, rule}
 use Rattle.bpf_elf.specs.Numbers.{half, word, long, count, place, offset, size, link, entry_size}
 use Rattle.bpf_elf.specs.Names.{string_at}
 use Rattle.bpf_elf.specs.Kinds.{is_kind}
@@ -88,25 +88,25 @@ abbrev pub is_within : List ℕ → ℕ → ℕ → ℕ → Bool
 is_within b section value size_of = is_special section || (not (is_data b section) || nat_le (value + size_of) (size b section))
 
 -- the symbols have names, and the first one is zero
-abbrev pub first_symbol_rules : List ℕ → List Rule
+abbrev pub first_symbol_rules : List ℕ → List ElfRule
 first_symbol_rules b =
     rule cause.SymbolNames (place b (symbols b) + 40) (nat_lt (link b (symbols b)) (count b) && is_string_table b (link b (symbols b)))
     ∷ rule cause.FirstSymbol (offset b (symbols b)) (is_zero_at b (offset b (symbols b)) 24)
     ∷ []
 
 -- the symbol table is whole
-abbrev pub symbol_form_rules : List ℕ → List Rule
+abbrev pub symbol_form_rules : List ℕ → List ElfRule
 symbol_form_rules b =
     rule cause.SymbolTableSize (place b (symbols b) + 32) (nat_le 24 (size b (symbols b)) && size b (symbols b) % 24 == 0)
     ∷ rule cause.SymbolEntrySize (place b (symbols b) + 56) (entry_size b (symbols b) == 24)
     ∷ first_symbol_rules b
 
 -- there is a symbol table
-abbrev pub symbol_table_rules : List ℕ → List Rule
+abbrev pub symbol_table_rules : List ℕ → List ElfRule
 symbol_table_rules b = rule cause.NoSymbols 40 (nat_lt 0 (symbols b)) ∷ symbol_form_rules b
 
 -- a symbol has a name and a section, and is inside it
-abbrev pub symbol_rules : List ℕ → ℕ → List Rule
+abbrev pub symbol_rules : List ℕ → ℕ → List ElfRule
 symbol_rules b j =
     rule cause.SymbolName (symbol_place b j) (nat_lt (st_name b j) (length (symbol_strings b)))
     ∷ rule cause.SymbolSection (symbol_place b j + 6) (has_section b (st_info b j) (st_shndx b j))
