@@ -15,8 +15,9 @@ pub(crate) fn is_closed(strings: &[u8]) -> bool
     !strings.is_empty() && strings[0] == 0 && strings[strings.len() - 1] == 0
 }
 
-/// The string at an offset of a string table.
-pub(crate) fn string_at(strings: &[u8], off: usize) -> &[u8]
+/// The string at an offset of a string table, without its NUL. The table must begin and end with a
+/// NUL, and the offset must be inside it.
+pub fn string_at(strings: &[u8], off: usize) -> &[u8]
     requires closed { spec.is_closed strings.now ≡ true }
     requires there { off < length strings.now }
     ensures { result.now ≡ spec.string_at strings.now off }
@@ -25,8 +26,9 @@ pub(crate) fn string_at(strings: &[u8], off: usize) -> &[u8]
     &strings[off..end]
 }
 
-/// Whether the name of a section is at an offset of a string table.
-pub(crate) fn is_section_name(strings: &[u8], off: usize) -> bool
+/// Whether the name of a section is at an offset of a string table: the offset is inside, and the
+/// string has at most 1,024 bytes. The table must begin and end with a NUL.
+pub fn is_section_name(strings: &[u8], off: usize) -> bool
     requires { spec.is_closed strings.now ≡ true }
     ensures { result ≡ spec.is_section_name strings.now off }
 {

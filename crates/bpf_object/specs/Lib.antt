@@ -1,0 +1,4 @@
+pub mod Faults
+pub mod Extension
+pub mod Lines
+pub mod Sources

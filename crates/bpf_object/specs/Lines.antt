@@ -1,0 +1,63 @@
+-- The rules on functions, source lines and CO-RE relocations of .BTF.ext.
+use Rattle.std.specs.Prelude.{ℕ, zero, suc, ◌+◌, ◌==◌, ◌||◌, ◌&&◌, nat_lt, Bool, true, false, List, [], ◌∷◌, ◌++◌, length}
+use Rattle.std.specs.{Str.bytes_eq}
+use Rattle.bpf_elf.specs.Rules.{rule, each}
+use Rattle.bpf_elf.specs.Names.{string_at}
+use Rattle.bpf_object.specs.declared.fault.ObjectCause.TheVariants as cause
+use Rattle.bpf_object.specs.declared.extension.Part.{Part, TheVariants.Functions, TheVariants.Lines, TheVariants.Relocations}
+use Rattle.bpf_object.specs.Faults.{ObjectRule}
+use Rattle.bpf_object.specs.Extension.{Section, word, group_name, group_count, groups, record_place, head_rules, part_rules}
+
+-- the name of the section of a group
+abbrev pub name_of : Section → ℕ → List ℕ
+name_of x g = string_at x.strings (group_name x g)
+
+-- insn_off of a record
+abbrev pub insn_off : Section → Part → ℕ → ℕ → ℕ
+insn_off x p g k = word x (record_place p g k)
+
+-- the first n offsets of a group ascend
+abbrev pub ascends : Section → Part → ℕ → ℕ → Bool
+ascends x p g zero = true
+ascends x p g (suc zero) = true
+ascends x p g (suc (suc n)) = ascends x p g (suc n) && nat_lt (insn_off x p g n) (insn_off x p g (suc n))
+
+-- one of the first n lines of a group has an offset
+abbrev pub has_line : Section → ℕ → ℕ → ℕ → Bool
+has_line x g zero off = false
+has_line x g (suc n) off = has_line x g n off || insn_off x Lines g n == off
+
+-- each of the first n functions of a group has a line
+abbrev pub have_lines : Section → ℕ → ℕ → ℕ → Bool
+have_lines x f l zero = true
+have_lines x f l (suc n) = have_lines x f l n && has_line x l (group_count x l) (insn_off x Functions f n)
+
+-- the lines of a section belong to its functions
+abbrev pub is_pair : Section → ℕ → ℕ → Bool
+is_pair x f l =
+    bytes_eq (name_of x f) (name_of x l)
+    && (ascends x Functions f (group_count x f) && (ascends x Lines l (group_count x l) && have_lines x f l (group_count x f)))
+
+-- functions and lines are of the same sections, in the same sequence
+abbrev pub pairs_rules : Section → List ℕ → List ℕ → List ObjectRule
+pairs_rules x [] [] = []
+pairs_rules x (f ∷ fs) [] = rule cause.ExtensionLines (x.start + f) false ∷ []
+pairs_rules x [] (l ∷ ls) = rule cause.ExtensionLines (x.start + l) false ∷ []
+pairs_rules x (f ∷ fs) (l ∷ ls) = rule cause.ExtensionLines (x.start + f) (is_pair x f l) ∷ pairs_rules x fs ls
+
+-- access_str_off of a CO-RE relocation
+abbrev pub access_rules : Section → ℕ → ℕ → List ObjectRule
+access_rules x g k =
+    rule cause.ExtensionString (x.start + record_place Relocations g k + 8) (nat_lt (word x (record_place Relocations g k + 8)) (length x.strings)) ∷ []
+
+abbrev pub accesses_rules : Section → List ℕ → List ObjectRule
+accesses_rules x [] = []
+accesses_rules x (g ∷ gs) = each (group_count x g) (access_rules x g) ++ accesses_rules x gs
+
+-- all rules on .BTF.ext, in the order in which they are checked
+abbrev pub extension_rules : Section → List ObjectRule
+extension_rules x =
+    head_rules x
+    ++ (part_rules x Functions
+    ++ (part_rules x Lines
+    ++ (part_rules x Relocations ++ (pairs_rules x (groups x Functions) (groups x Lines) ++ accesses_rules x (groups x Relocations)))))

@@ -1,0 +1,12 @@
+//! Canonical object files: what a BPF object file holds beside its sections, symbols and relocations
+//! (Linux Documentation/bpf/btf.rst, "4. ELF File Format Interface").
+
+#![tactic(auto)]
+
+mod extension;
+mod fault;
+mod group_checks;
+mod source;
+
+pub use extension::Part;
+pub use fault::{ObjectCause, ObjectFault};
