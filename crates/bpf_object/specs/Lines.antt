@@ -1,5 +1,5 @@
 -- The rules on functions, source lines and CO-RE relocations of .BTF.ext.
-use Rattle.std.specs.Prelude.{ℕ, zero, suc, ◌+◌, ◌==◌, ◌||◌, ◌&&◌, nat_lt, Bool, true, false, List, [], ◌∷◌, ◌++◌, length}
+use Rattle.std.specs.Prelude.{ℕ, zero, suc, ◌+◌, ◌-◌, ◌==◌, ◌||◌, ◌&&◌, nat_lt, Bool, true, false, List, [], ◌∷◌, ◌++◌, length}
 use Rattle.std.specs.{Str.bytes_eq}
 use Rattle.bpf_elf.specs.Rules.{rule, each}
 use Rattle.bpf_elf.specs.Names.{string_at}
@@ -16,27 +16,30 @@ name_of x g = string_at x.strings (group_name x g)
 abbrev pub insn_off : Section → Part → ℕ → ℕ → ℕ
 insn_off x p g k = word x (record_place p g k)
 
--- the first n offsets of a group ascend
-abbrev pub ascends : Section → Part → ℕ → ℕ → Bool
-ascends x p g zero = true
-ascends x p g (suc zero) = true
-ascends x p g (suc (suc n)) = ascends x p g (suc n) && nat_lt (insn_off x p g n) (insn_off x p g (suc n))
+-- all of the first n numbers, or one of them, pass a test
+abbrev pub all_of : ℕ → (ℕ → Bool) → Bool
+all_of zero test = true
+all_of (suc n) test = all_of n test && test n
 
--- one of the first n lines of a group has an offset
-abbrev pub has_line : Section → ℕ → ℕ → ℕ → Bool
-has_line x g zero off = false
-has_line x g (suc n) off = has_line x g n off || insn_off x Lines g n == off
+abbrev pub any_of : ℕ → (ℕ → Bool) → Bool
+any_of zero test = false
+any_of (suc n) test = any_of n test || test n
 
--- each of the first n functions of a group has a line
-abbrev pub have_lines : Section → ℕ → ℕ → ℕ → Bool
-have_lines x f l zero = true
-have_lines x f l (suc n) = have_lines x f l n && has_line x l (group_count x l) (insn_off x Functions f n)
+-- the offsets of a group ascend
+abbrev pub ascends : Section → Part → ℕ → Bool
+ascends x p g = all_of (group_count x g) (λ k. k == 0 || nat_lt (insn_off x p g (k - 1)) (insn_off x p g k))
+
+-- a line of a group has an offset
+abbrev pub has_line : Section → ℕ → ℕ → Bool
+has_line x l off = any_of (group_count x l) (λ k. insn_off x Lines l k == off)
+
+-- each function of a group has a line
+abbrev pub have_lines : Section → ℕ → ℕ → Bool
+have_lines x f l = all_of (group_count x f) (λ k. has_line x l (insn_off x Functions f k))
 
 -- the lines of a section belong to its functions
 abbrev pub is_pair : Section → ℕ → ℕ → Bool
-is_pair x f l =
-    bytes_eq (name_of x f) (name_of x l)
-    && (ascends x Functions f (group_count x f) && (ascends x Lines l (group_count x l) && have_lines x f l (group_count x f)))
+is_pair x f l = bytes_eq (name_of x f) (name_of x l) && (ascends x Functions f && (ascends x Lines l && have_lines x f l))
 
 -- functions and lines are of the same sections, in the same sequence
 abbrev pub pairs_rules : Section → List ℕ → List ℕ → List ObjectRule

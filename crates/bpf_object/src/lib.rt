@@ -6,6 +6,7 @@
 mod extension;
 mod fault;
 mod group_checks;
+mod line_checks;
 mod source;
 
 pub use extension::Part;

@@ -80,7 +80,7 @@ pub(crate) fn part_end(x: Source<'_>, part: Part) -> usize
 }
 
 /// How many bytes n records of a part have.
-fn records_len(part: Part, n: usize) -> usize
+pub(crate) fn records_len(part: Part, n: usize) -> usize
     requires { n < 2 ^ 32 }
     ensures value { result ≡ spec.record_size part * n }
     ensures small { result < 2 ^ 36 }

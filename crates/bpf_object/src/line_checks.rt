@@ -1,0 +1,105 @@
+//! The rules on the functions and the source lines of .BTF.ext.
+
+ghost use Rattle.std.specs.Prelude.{◌≡◌, ◌-◌, ◌==◌, ◌||◌, ◌<◌, ◌≤◌, nat_lt, ℕ, true};
+ghost use Rattle.bpf_object.specs.declared.extension.Part.TheVariants.{Functions, Lines};
+ghost use Rattle.bpf_object.specs.Extension.{group_count as spec_count};
+ghost use Rattle.bpf_object.specs.Lines as spec;
+ghost use Rattle.bpf_object.specs.Sources.{section, HasGroup};
+
+use crate::extension::Part;
+use crate::source::{Source, group_count, records_len, word};
+use bpf_elf::string_at;
+
+/// insn_off of a record.
+fn insn_off(x: Source<'_>, part: Part, group: usize, k: usize) -> usize
+    requires group { HasGroup x part group }
+    requires there { k < spec_count (section x) group }
+    ensures { result ≡ spec.insn_off (section x.entry) part group k }
+{
+    word(x, group + 8 + records_len(part, k))
+}
+
+/// Whether the offset of a record is greater than that of the one before it.
+fn follows(x: Source<'_>, part: Part, group: usize, k: usize) -> bool
+    requires group { HasGroup x part group }
+    requires there { k < spec_count (section x) group }
+    ensures { result ≡ (k == 0 || nat_lt (spec.insn_off (section x.entry) part group (k - 1))
+        (spec.insn_off (section x.entry) part group k)) }
+{
+    k == 0 || insn_off(x, part, group, k - 1) < insn_off(x, part, group, k)
+}
+
+/// Whether the offsets of a group ascend.
+fn ascends(x: Source<'_>, part: Part, group: usize) -> bool
+    requires { HasGroup x part group }
+    ensures { result ≡ spec.ascends (section x.entry) part group }
+{
+    for k in 0..group_count(x, group) {
+        if !follows(x, part, group, k) {
+            return false;
+        }
+    }
+    true
+}
+
+/// The first line from one on whose offset isn't less than `off`, or the number of lines.
+fn line_from(x: Source<'_>, group: usize, from: usize, off: usize) -> usize
+    requires group { HasGroup x Lines group }
+    requires there { from ≤ spec_count (section x) group }
+    ensures range { (from ≤ result) × (result ≤ spec_count (section x.entry) group) }
+    ensures before { (k : ℕ) → from ≤ k → k < result
+        → spec.insn_off (section x.entry) Lines group k < off }
+    ensures found { result < spec_count (section x.entry) group
+        → off ≤ spec.insn_off (section x.entry) Lines group result }
+{
+    let count = group_count(x, group);
+    for k in from..count {
+        if insn_off(x, Part::Lines, group, k) >= off {
+            return k;
+        }
+    }
+    count
+}
+
+/// Whether a group has a line of an offset, if the first one that isn't less is known.
+fn is_line(x: Source<'_>, group: usize, line: usize, off: usize) -> bool
+    requires group { HasGroup x Lines group }
+    requires ascend { spec.ascends (section x) Lines group ≡ true }
+    requires before { (k : ℕ) → k < line → spec.insn_off (section x) Lines group k < off }
+    requires found { line < spec_count (section x) group
+        → off ≤ spec.insn_off (section x) Lines group line }
+    ensures { result ≡ spec.has_line (section x.entry) group off }
+{
+    line < group_count(x, group) && insn_off(x, Part::Lines, group, line) == off
+}
+
+/// Whether each function of a group has a line. Both groups ascend.
+fn have_lines(x: Source<'_>, functions: usize, lines: usize) -> bool
+    requires functions { HasGroup x Functions functions }
+    requires lines { HasGroup x Lines lines }
+    requires functions_ascend { spec.ascends (section x) Functions functions ≡ true }
+    requires lines_ascend { spec.ascends (section x) Lines lines ≡ true }
+    ensures { result ≡ spec.have_lines (section x.entry) functions lines }
+{
+    let mut line = 0;
+    for k in 0..group_count(x, functions) {
+        let off = insn_off(x, Part::Functions, functions, k);
+        line = line_from(x, lines, line, off);
+        if !is_line(x, lines, line, off) {
+            return false;
+        }
+    }
+    true
+}
+
+/// Whether a group of lines belongs to a group of functions.
+fn is_pair(x: Source<'_>, functions: usize, lines: usize) -> bool
+    requires functions { HasGroup x Functions functions }
+    requires lines { HasGroup x Lines lines }
+    ensures { result ≡ spec.is_pair (section x.entry) functions lines }
+{
+    string_at(x.strings, word(x, functions)) == string_at(x.strings, word(x, lines))
+        && ascends(x, Part::Functions, functions)
+        && ascends(x, Part::Lines, lines)
+        && have_lines(x, functions, lines)
+}
