@@ -1,54 +1,67 @@
 -- The groups of a part that are left to be checked.
-use Rattle.std.proofs.Common.{◌≡◌, ℕ, zero, suc, ◌+◌, ◌<◌, ◌≤◌, Bool, true, false, Option, Some, None, List, [], ◌∷◌, ◌++◌, refl, sym, ◌∙◌, cond, arith}
+use Rattle.std.proofs.Common.{◌≡◌, ℕ, zero, suc, ◌+◌, ◌<◌, ◌≤◌, true, false, Some, List, [], refl, ◌∙◌, arith}
 use Rattle.std.specs.Prelude.{nat_lt, if◌then◌else◌}
+use Rattle.std.specs.List.{All}
 use Rattle.std.proofs.lemmas.Bool.Decides.{nat_tests}
+use Rattle.std.proofs.lemmas.List.Elements.{All-nil, All-cons}
 use Rattle.bpf_elf.specs.Rules.{Broken, first_broken, AllHold}
 use Rattle.bpf_elf.proofs.RuleLemmas.{stays_first, after_holding}
-use Rattle.bpf_object.specs.declared.{extension.Part.Part, fault.ObjectCause.ObjectCause}
-use Rattle.bpf_object.specs.Faults.{ObjectRule}
+use Rattle.bpf_object.specs.declared.{extension.Part.Part, fault.ObjectCause.ObjectCause, source.Source.Source}
 use Rattle.bpf_object.specs.Extension.{Section, part_end, next_group, groups_from, group_rules, groups_rules}
+use Rattle.bpf_object.specs.Sources.{section, HasGroup}
 
--- the first broken rule of all is that of the groups from one on
-pub record Left (s : Section) (p : Part) (all : List ObjectRule) (g : ℕ) : Type 0 where
+-- of some groups the first broken rule is that of the groups from one on, and the groups before that one are inside the part
+pub record Left (x : Source) (p : Part) (gs : List ℕ) (g : ℕ) : Type 0 where
   pub n : ℕ
-  pub enough : part_end s p ≤ g + suc n
-  pub rest : first_broken all ≡ first_broken (groups_rules s p (groups_from s p (suc n) g))
+  pub enough : part_end (section x) p ≤ g + suc n
+  pub rest : first_broken (groups_rules (section x) p gs) ≡ first_broken (groups_rules (section x) p (groups_from (section x) p (suc n) g))
+  pub known : All (HasGroup x p) (groups_from (section x) p (suc n) g) → All (HasGroup x p) gs
 
-later : (s : Section) (p : Part) (g n : ℕ) → List ℕ
+-- the groups after a group
+unfoldable pub later : (s : Section) (p : Part) (g n : ℕ) → List ℕ
 later s p g n = if nat_lt (next_group s p g) (part_end s p) then groups_from s p n (next_group s p g) else []
 
-pub left_fault : (s : Section) (p : Part) (all : List ObjectRule) (g : ℕ) (f : Broken ObjectCause) → Left s p all g
-    → first_broken (group_rules s p g) ≡ Some f → first_broken all ≡ Some f
+pub left_fault : (x : Source) (p : Part) (gs : List ℕ) (g : ℕ) (f : Broken ObjectCause) → Left x p gs g → first_broken (group_rules (section x) p g) ≡ Some f
+    → first_broken (groups_rules (section x) p gs) ≡ Some f
 unfolding later
-left_fault s p all g f l h = l.rest ∙ stays_first (group_rules s p g) (groups_rules s p (later s p g l.n)) f h
+left_fault x p gs g f l h = l.rest ∙ stays_first (group_rules (section x) p g) (groups_rules (section x) p (later (section x) p g l.n)) f h
 
-passes : (s : Section) (p : Part) (all : List ObjectRule) (g : ℕ) (l : Left s p all g) → AllHold (group_rules s p g)
-    → first_broken all ≡ first_broken (groups_rules s p (later s p g l.n))
+passes : (x : Source) (p : Part) (gs : List ℕ) (g : ℕ) (l : Left x p gs g) → AllHold (group_rules (section x) p g)
+    → first_broken (groups_rules (section x) p gs) ≡ first_broken (groups_rules (section x) p (later (section x) p g l.n))
 unfolding later
-passes s p all g l h = l.rest ∙ after_holding (group_rules s p g) (groups_rules s p (later s p g l.n)) h
+passes x p gs g l h = l.rest ∙ after_holding (group_rules (section x) p g) (groups_rules (section x) p (later (section x) p g l.n)) h
+
+knows : (x : Source) (p : Part) (gs : List ℕ) (g : ℕ) (l : Left x p gs g) → HasGroup x p g → All (HasGroup x p) (later (section x) p g l.n)
+    → All (HasGroup x p) gs
+unfolding later
+knows x p gs g l here after = l.known (All-cons (HasGroup x p) g (later (section x) p g l.n) here after)
 
 -- there are groups left, so at least one
-more : (s : Section) (p : Part) (all : List ObjectRule) (g n : ℕ) → part_end s p ≤ g + suc n → g + 8 ≤ next_group s p g
-    → next_group s p g < part_end s p → first_broken all ≡ first_broken (groups_rules s p (groups_from s p n (next_group s p g)))
-    → Left s p all (next_group s p g)
-more s p all g zero enough moved lt h = absurd (omega (arith, enough, moved, lt))
-more s p all g (suc n) enough moved lt h = record { n = n; enough = omega (arith, enough, moved); rest = h }
+more : (x : Source) (p : Part) (gs : List ℕ) (g n : ℕ) → part_end (section x) p ≤ g + suc n → g + 8 ≤ next_group (section x) p g
+    → next_group (section x) p g < part_end (section x) p
+    → first_broken (groups_rules (section x) p gs) ≡ first_broken (groups_rules (section x) p (groups_from (section x) p n (next_group (section x) p g)))
+    → (All (HasGroup x p) (groups_from (section x) p n (next_group (section x) p g)) → All (HasGroup x p) gs) → Left x p gs (next_group (section x) p g)
+more x p gs g zero enough moved lt h k = absurd (omega (arith, enough, moved, lt))
+more x p gs g (suc n) enough moved lt h k = record { n = n; enough = omega (arith, enough, moved); rest = h; known = k }
 
-pub left_next : (s : Section) (p : Part) (all : List ObjectRule) (g : ℕ) → Left s p all g → AllHold (group_rules s p g)
-    → g + 8 ≤ next_group s p g → next_group s p g < part_end s p → Left s p all (next_group s p g)
+pub left_next : (x : Source) (p : Part) (gs : List ℕ) (g : ℕ) → Left x p gs g → AllHold (group_rules (section x) p g) → HasGroup x p g
+    → next_group (section x) p g < part_end (section x) p → Left x p gs (next_group (section x) p g)
 unfolding later
-left_next s p all g l h moved lt =
-    let there : nat_lt (next_group s p g) (part_end s p) ≡ true = grind (arith, nat_tests) in
+left_next x p gs g l h here lt =
+    let there : nat_lt (next_group (section x) p g) (part_end (section x) p) ≡ true = grind (arith, nat_tests) in
+    let after : later (section x) p g l.n ≡ groups_from (section x) p l.n (next_group (section x) p g) = rw there refl in
     let enough = l.enough in
-    more s p all g l.n enough moved lt (passes s p all g l h ∙ rw there refl)
+    let moved = here.head in
+    more x p gs g l.n enough moved lt (rw after at (passes x p gs g l h)) (rw after at (knows x p gs g l here))
 
-pub left_last : (s : Section) (p : Part) (all : List ObjectRule) (g : ℕ) → Left s p all g → AllHold (group_rules s p g)
-    → part_end s p ≤ next_group s p g → AllHold all
+pub left_last : (x : Source) (p : Part) (gs : List ℕ) (g : ℕ) → Left x p gs g → AllHold (group_rules (section x) p g) → HasGroup x p g
+    → part_end (section x) p ≤ next_group (section x) p g → AllHold (groups_rules (section x) p gs) × All (HasGroup x p) gs
 unfolding later
-left_last s p all g l h le =
-    let there : nat_lt (next_group s p g) (part_end s p) ≡ false = grind (arith, nat_tests) in
-    passes s p all g l h ∙ rw there refl
+left_last x p gs g l h here le =
+    let there : nat_lt (next_group (section x) p g) (part_end (section x) p) ≡ false = grind (arith, nat_tests) in
+    let after : later (section x) p g l.n ≡ [] = rw there refl in
+    (rw after at (passes x p gs g l h), (rw after at (knows x p gs g l here)) (All-nil (HasGroup x p)))
 
-pub left_first : (s : Section) (p : Part) (g n : ℕ) → 0 < n → part_end s p ≤ g + n → Left s p (groups_rules s p (groups_from s p n g)) g
-left_first s p g zero some enough = absurd (omega (arith, some))
-left_first s p g (suc n) some enough = record { n = n; enough = enough; rest = refl }
+pub left_first : (x : Source) (p : Part) (g n : ℕ) → 0 < n → part_end (section x) p ≤ g + n → Left x p (groups_from (section x) p n g) g
+left_first x p g zero some enough = absurd (omega (arith, some))
+left_first x p g (suc n) some enough = record { n = n; enough = enough; rest = refl; known = λ a. a }

@@ -1,2 +1,5 @@
 pub mod GroupLemmas
 pub mod TestLemmas
+pub mod CursorLemmas
+pub mod StepLemmas
+pub mod ExtensionLemmas

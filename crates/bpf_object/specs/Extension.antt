@@ -1,5 +1,5 @@
 -- The header and the parts of .BTF.ext, and the rules on them (Linux Documentation/bpf/btf.rst, "4. ELF File Format Interface").
-use Rattle.std.specs.Prelude.{ℕ, zero, suc, ◌+◌, ◌*◌, ◌%◌, ◌==◌, ◌||◌, ◌&&◌, nat_lt, nat_le, Bool, List, [], ◌∷◌, ◌++◌, length, slice_index, if◌then◌else◌}
+use Rattle.std.specs.Prelude.{ℕ, zero, suc, ◌+◌, ◌*◌, ◌%◌, ◌==◌, ◌||◌, ◌&&◌, nat_lt, nat_le, List, [], ◌∷◌, ◌++◌, length, slice_index, if◌then◌else◌}
 use Rattle.bpf_words.specs.{declared.Order.Order, Words.word16_at, Words.word32_at}
 use Rattle.bpf_elf.specs.Rules.{rule}
 use Rattle.bpf_elf.specs.Names.{is_section_name}

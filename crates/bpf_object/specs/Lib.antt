@@ -2,3 +2,4 @@ pub mod Faults
 pub mod Extension
 pub mod Lines
 pub mod Sources
+pub mod Cursors

@@ -1,10 +1,11 @@
 -- Only private contracts cite this file.
 -- What a section that is being checked means, and what is known of it.
 use Rattle.std.specs.Prelude.{◌≡◌, ℕ, ◌+◌, ◌≤◌, true, length}
+use Rattle.std.specs.List.{All}
 use Rattle.bpf_elf.specs.Names.{is_closed, is_section_name}
 use Rattle.bpf_object.specs.declared.source.Source.{Source}
-use Rattle.bpf_object.specs.declared.extension.Part.{Part}
-use Rattle.bpf_object.specs.Extension.{Section, part_end, next_group, group_name}
+use Rattle.bpf_object.specs.declared.extension.Part.{Part, TheVariants.Functions, TheVariants.Lines, TheVariants.Relocations}
+use Rattle.bpf_object.specs.Extension.{Section, part_end, next_group, group_name, groups}
 
 abbrev pub section : Source → Section
 section x = record { order = x.order; start = x.start; bytes = x.bytes.now; strings = x.strings.now }
@@ -31,3 +32,14 @@ pub record HasGroup (x : Source) (p : Part) (g : ℕ) : Type 0 where
   pub inside : next_group (section x) p g ≤ part_end (section x) p
   pub head : g + 8 ≤ next_group (section x) p g
   pub named : is_section_name x.strings.now (group_name (section x) g) ≡ true
+
+-- and so are all groups of a part
+pub record HasGroups (x : Source) (p : Part) : Type 0 where
+  pub part : HasPart x p
+  pub groups : All (HasGroup x p) (groups (section x) p)
+
+-- and so are all groups
+pub record HasParts (x : Source) : Type 0 where
+  pub functions : HasGroups x Functions
+  pub lines : HasGroups x Lines
+  pub relocations : HasGroups x Relocations

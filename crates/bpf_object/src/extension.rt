@@ -1,14 +1,27 @@
-//! The header and the parts of .BTF.ext.
+//! The section .BTF.ext: its header, its parts and all of its rules.
 
-ghost use Rattle.std.specs.Prelude.{◌≡◌, ◌≤◌, true, length, MatchResult};
+ghost use Rattle.std.specs.Prelude.{◌≡◌, ◌++◌, ◌≤◌, true, length, MatchResult};
+ghost use Rattle.bpf_elf.specs.Names.{is_closed};
 ghost use Rattle.bpf_elf.specs.Rules.{AllHold};
-ghost use Rattle.bpf_object.specs.Faults.{IsFirstFault};
-ghost use Rattle.bpf_object.specs.Extension.{head_rules, form_rules, part_rules};
-ghost use Rattle.bpf_object.specs.Sources.{section, IsSource, HasHeader, HasPart};
+ghost use Rattle.bpf_object.specs.declared.extension.Part.TheVariants.{Functions, Lines, Relocations};
+ghost use Rattle.bpf_object.specs.Faults.{Checks, IsFirstFault};
+ghost use Rattle.bpf_object.specs.Extension.{head_rules, form_rules, part_rules, groups};
+ghost use Rattle.bpf_object.specs.Lines.{pairs_rules, accesses_rules, extension_rules};
+ghost use Rattle.bpf_object.specs.Sources.{
+  section,
+  IsSource,
+  HasHeader,
+  HasPart,
+  HasGroups,
+  HasParts,
+};
 
+use crate::access_checks::check_accesses;
 use crate::fault::{ObjectCause, ObjectFault, require};
+use crate::group_checks::check_groups;
+use crate::line_checks::check_pairs;
 use crate::source::{Source, part_end, part_field, part_len, part_start, record_size, word};
-use bpf_words::get16;
+use bpf_words::{Order, get16};
 
 /// A part of .BTF.ext.
 #[derive(Clone, Copy, Debug, PartialEq, Eq)]
@@ -62,4 +75,77 @@ fn check_form(x: Source<'_>, part: Part) -> Result<(), ObjectFault>
         start + at as u64,
         ObjectCause::ExtensionRecordSize,
     )
+}
+
+/// Checks a part and its groups.
+fn check_part(x: Source<'_>, part: Part) -> Result<(), ObjectFault>
+    requires { HasHeader x }
+    ensures { MatchResult result
+        (λ _. AllHold (part_rules (section x.entry) part) × HasGroups x.entry part)
+        (IsFirstFault (part_rules (section x.entry) part)) }
+{
+    check_form(x, part)?;
+    check_groups(x, part)?;
+    Ok(())
+}
+
+/// Checks all parts.
+fn check_parts(x: Source<'_>) -> Result<(), ObjectFault>
+    requires { HasHeader x }
+    ensures { let rules = part_rules (section x.entry) Functions
+        ++ (part_rules (section x.entry) Lines ++ part_rules (section x.entry) Relocations) in
+        MatchResult result (λ _. AllHold rules × HasParts x.entry) (IsFirstFault rules) }
+{
+    check_part(x, Part::Functions)?;
+    check_part(x, Part::Lines)?;
+    check_part(x, Part::Relocations)?;
+    Ok(())
+}
+
+/// Checks what the parts say of one another and of the strings.
+fn check_records(x: Source<'_>) -> Result<(), ObjectFault>
+    requires { HasParts x }
+    ensures { let s = section x.entry in
+        Checks (pairs_rules s (groups s Functions) (groups s Lines)
+        ++ accesses_rules s (groups s Relocations)) result }
+{
+    check_pairs(x)?;
+    check_accesses(x)
+}
+
+/// Checks the section .BTF.ext of an object file.
+///
+/// `order` is the byte order of the file, and `start` is where the section is in it, in bytes.
+/// `bytes` are the section, and `strings` the strings of .BTF, which must begin and end with a NUL.
+/// `start` and the length of `bytes` are at most 64 MiB. The rules are those of
+/// `specs/Extension.antt` and `specs/Lines.antt` (Linux Documentation/bpf/btf.rst, "4.2 .BTF.ext
+/// section").
+///
+/// # Errors
+///
+/// The first rule that the section breaks, and where in the file: of the header, of each part with
+/// its groups (functions, lines, CO-RE relocations), of the pairs of functions and lines, and of
+/// the strings of CO-RE relocations, in this sequence. [`ObjectCause`] says what each rule is.
+pub fn check_extension(
+    order: Order,
+    start: u32,
+    bytes: &[u8],
+    strings: &[u8],
+) -> Result<(), ObjectFault>
+    requires strings { is_closed strings.now ≡ true }
+    requires start { start ≤ 67108864 }
+    requires short { length bytes.now ≤ 67108864 }
+    ensures { Checks (extension_rules
+        (record { order = order; start = start; bytes = bytes.now; strings = strings.now }))
+        result }
+{
+    let x = Source {
+        order,
+        start,
+        bytes,
+        strings,
+    };
+    check_header(x)?;
+    check_parts(x)?;
+    check_records(x)
 }

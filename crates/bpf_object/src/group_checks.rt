@@ -1,10 +1,11 @@
 //! The rules on the groups of records of .BTF.ext.
 
 ghost use Rattle.std.specs.Prelude.{◌≡◌, ◌⊎◌, ◌+◌, ◌<◌, ◌≤◌, ◌&&◌, nat_lt, nat_le, true, length, MatchResult};
+ghost use Rattle.std.specs.List.{All};
 ghost use Rattle.bpf_elf.specs.Rules.{AllHold};
-ghost use Rattle.bpf_object.specs.Faults.{Checks, IsFirstFault};
+ghost use Rattle.bpf_object.specs.Faults.{IsFirstFault};
 ghost use Rattle.bpf_object.specs.Extension as spec;
-ghost use Rattle.bpf_object.specs.Sources.{section, HasPart, HasGroup};
+ghost use Rattle.bpf_object.specs.Sources.{section, HasPart, HasGroup, HasGroups};
 
 use crate::extension::Part;
 use crate::fault::{ObjectCause, ObjectFault, require};
@@ -47,9 +48,12 @@ fn check_from(x: Source<'_>, part: Part, first: usize) -> Result<(), ObjectFault
     requires near { first ≤ spec.part_end (section x) part }
     requires some { 0 < spec.part_len (section x) part }
     requires enough { spec.part_end (section x) part ≤ first + spec.part_len (section x) part }
-    ensures { Checks (spec.groups_rules (section x.entry) part
-        (spec.groups_from (section x.entry) part (spec.part_len (section x.entry) part) first))
-        result }
+    ensures { let groups = spec.groups_from (section x.entry) part
+        (spec.part_len (section x.entry) part) first in
+        MatchResult result
+        (λ _. AllHold (spec.groups_rules (section x.entry) part groups)
+        × All (HasGroup x.entry part) groups)
+        (IsFirstFault (spec.groups_rules (section x.entry) part groups)) }
 {
     let end = part_end(x, part);
     let mut group = first;
@@ -66,8 +70,11 @@ fn check_from(x: Source<'_>, part: Part, first: usize) -> Result<(), ObjectFault
 pub(crate) fn check_groups(x: Source<'_>, part: Part) -> Result<(), ObjectFault>
     requires part { HasPart x part }
     requires whole { spec.part_len (section x) part ≡ 0 ⊎ 4 ≤ spec.part_len (section x) part }
-    ensures { Checks (spec.groups_rules (section x.entry) part (spec.groups (section x.entry) part))
-        result }
+    ensures { MatchResult result
+        (λ _. AllHold (spec.groups_rules (section x.entry) part
+        (spec.groups (section x.entry) part)) × HasGroups x.entry part)
+        (IsFirstFault (spec.groups_rules (section x.entry) part
+        (spec.groups (section x.entry) part))) }
 {
     if part_len(x, part) == 0 {
         return Ok(());

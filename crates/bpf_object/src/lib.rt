@@ -3,11 +3,13 @@
 
 #![tactic(auto)]
 
+mod access_checks;
+mod cursors;
 mod extension;
 mod fault;
 mod group_checks;
 mod line_checks;
 mod source;
 
-pub use extension::Part;
+pub use extension::{Part, check_extension};
 pub use fault::{ObjectCause, ObjectFault};

@@ -1,12 +1,17 @@
 //! The rules on the functions and the source lines of .BTF.ext.
 
-ghost use Rattle.std.specs.Prelude.{◌≡◌, ◌-◌, ◌==◌, ◌||◌, ◌<◌, ◌≤◌, nat_lt, ℕ, true};
+ghost use Rattle.std.specs.Prelude.{◌≡◌, ◌+◌, ◌-◌, ◌==◌, ◌||◌, ◌<◌, ◌≤◌, nat_lt, ℕ, true, false, [], ◌∷◌};
+ghost use Rattle.bpf_elf.specs.Rules.{rule};
+ghost use Rattle.bpf_object.specs.declared.fault.ObjectCause.TheVariants.{ExtensionLines};
 ghost use Rattle.bpf_object.specs.declared.extension.Part.TheVariants.{Functions, Lines};
-ghost use Rattle.bpf_object.specs.Extension.{group_count as spec_count};
+ghost use Rattle.bpf_object.specs.Extension.{group_count as spec_count, groups};
+ghost use Rattle.bpf_object.specs.Faults.{Checks};
 ghost use Rattle.bpf_object.specs.Lines as spec;
-ghost use Rattle.bpf_object.specs.Sources.{section, HasGroup};
+ghost use Rattle.bpf_object.specs.Sources.{section, HasGroup, HasGroups};
 
+use crate::cursors::{first_group, next_in};
 use crate::extension::Part;
+use crate::fault::{ObjectCause, ObjectFault, require};
 use crate::source::{Source, group_count, records_len, word};
 use bpf_elf::string_at;
 
@@ -102,4 +107,48 @@ fn is_pair(x: Source<'_>, functions: usize, lines: usize) -> bool
         && ascends(x, Part::Functions, functions)
         && ascends(x, Part::Lines, lines)
         && have_lines(x, functions, lines)
+}
+
+/// Checks a group of functions and the group of lines in the same place.
+fn check_pair(x: Source<'_>, functions: usize, lines: usize) -> Result<(), ObjectFault>
+    requires functions { HasGroup x Functions functions }
+    requires lines { HasGroup x Lines lines }
+    ensures { Checks (rule ExtensionLines (x.entry.start + functions)
+        (spec.is_pair (section x.entry) functions lines) ∷ []) result }
+{
+    let pos = u64::from(x.start) + functions as u64;
+    let is_pair = is_pair(x, functions, lines);
+    require(is_pair, pos, ObjectCause::ExtensionLines)
+}
+
+/// Reports a group that has no other one in the same place.
+fn report_single(x: Source<'_>, part: Part, group: usize) -> Result<(), ObjectFault>
+    requires { HasGroup x part group }
+    ensures { Checks (rule ExtensionLines (x.entry.start + group) false ∷ []) result }
+{
+    let pos = u64::from(x.start) + group as u64;
+    require(false, pos, ObjectCause::ExtensionLines)
+}
+
+/// Checks that functions and lines are of the same sections, in the same sequence.
+pub(crate) fn check_pairs(x: Source<'_>) -> Result<(), ObjectFault>
+    requires functions { HasGroups x Functions }
+    requires lines { HasGroups x Lines }
+    ensures { Checks (spec.pairs_rules (section x.entry)
+        (groups (section x.entry) Functions) (groups (section x.entry) Lines)) result }
+{
+    let mut functions = first_group(x, Part::Functions);
+    let mut lines = first_group(x, Part::Lines);
+    loop {
+        match (functions, lines) {
+            (Some(function), Some(line)) => {
+                check_pair(x, function, line)?;
+                functions = next_in(x, Part::Functions, function);
+                lines = next_in(x, Part::Lines, line);
+            }
+            (Some(function), None) => return report_single(x, Part::Functions, function),
+            (None, Some(line)) => return report_single(x, Part::Lines, line),
+            (None, None) => return Ok(()),
+        }
+    }
 }

@@ -1,4 +1,4 @@
-use Rattle.std.proofs.Common.{sym, ◌∙◌, ◌-◌, ◌==◌, ◌||◌, rules}
+use Rattle.std.proofs.Common.{sym, ◌∙◌, ◌-◌, ◌==◌, ◌||◌}
 use Rattle.std.specs.Prelude.{nat_lt}
 use Rattle.bpf_object.specs.Extension.{group_count}
 use Rattle.bpf_object.specs.Lines.{insn_off}
