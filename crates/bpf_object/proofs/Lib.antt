@@ -3,3 +3,4 @@ pub mod TestLemmas
 pub mod CursorLemmas
 pub mod StepLemmas
 pub mod ExtensionLemmas
+pub mod FileLemmas

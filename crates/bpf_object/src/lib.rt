@@ -7,6 +7,7 @@ mod access_checks;
 mod cursors;
 mod extension;
 mod fault;
+mod file;
 mod group_checks;
 mod line_checks;
 mod source;
