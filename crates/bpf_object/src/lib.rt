@@ -11,6 +11,8 @@ mod file;
 mod group_checks;
 mod line_checks;
 mod source;
+#[cfg(test)]
+mod tests;
 
 pub use extension::{Part, check_extension};
 pub use fault::{ObjectCause, ObjectFault};
