@@ -38,7 +38,7 @@ pub record HasGroups (x : Source) (p : Part) : Type 0 where
   pub part : HasPart x p
   pub groups : All (HasGroup x p) (groups (section x) p)
 
--- and so are all groups
+-- and so are all groups of all parts
 pub record HasParts (x : Source) : Type 0 where
   pub functions : HasGroups x Functions
   pub lines : HasGroups x Lines

@@ -113,19 +113,34 @@ fn check_records(x: Source<'_>) -> Result<(), ObjectFault>
     check_accesses(x)
 }
 
-/// Checks the section .BTF.ext of an object file.
-///
-/// `order` is the byte order of the file, and `start` is where the section is in it, in bytes.
-/// `bytes` are the section, and `strings` the strings of .BTF, which must begin and end with a NUL.
-/// `start` and the length of `bytes` are at most 64 MiB. The rules are those of
-/// `specs/Extension.antt` and `specs/Lines.antt` (Linux Documentation/bpf/btf.rst, "4.2 .BTF.ext
+/// Checks the section .BTF.ext of an object file (Linux Documentation/bpf/btf.rst, "4.2 .BTF.ext
 /// section").
+///
+/// `order` is the byte order of the file, and `start` the offset in bytes of the section in it.
+/// `bytes` are the section, and `strings` the strings of .BTF, which must begin and end with a NUL.
+/// `start` and the length of `bytes` must be at most 64 MiB.
 ///
 /// # Errors
 ///
-/// The first rule that the section breaks, and where in the file: of the header, of each part with
-/// its groups (functions, lines, CO-RE relocations), of the pairs of functions and lines, and of
-/// the strings of CO-RE relocations, in this sequence. [`ObjectCause`] says what each rule is.
+/// The first rule that the section breaks, and where in the file. The rules are checked in this
+/// sequence:
+///
+/// - The header: [`ExtensionCut`](ObjectCause::ExtensionCut),
+///   [`ExtensionMagic`](ObjectCause::ExtensionMagic),
+///   [`ExtensionVersion`](ObjectCause::ExtensionVersion),
+///   [`ExtensionFlags`](ObjectCause::ExtensionFlags) and
+///   [`ExtensionHeaderSize`](ObjectCause::ExtensionHeaderSize).
+/// - The functions, then the lines, then the CO-RE relocations:
+///   [`ExtensionPart`](ObjectCause::ExtensionPart) and
+///   [`ExtensionRecordSize`](ObjectCause::ExtensionRecordSize), and for each group
+///   [`ExtensionGroup`](ObjectCause::ExtensionGroup), and
+///   [`ExtensionString`](ObjectCause::ExtensionString) if no section can have its name.
+/// - Each group of functions with the group of lines in the same place:
+///   [`ExtensionLines`](ObjectCause::ExtensionLines) if one of them is missing, if they are of
+///   sections with different names, if the instruction offsets of one of them don't ascend, or if a
+///   function has no line.
+/// - Each CO-RE relocation: [`ExtensionString`](ObjectCause::ExtensionString) if access_str_off is
+///   not inside `strings`.
 pub fn check_extension(
     order: Order,
     start: u32,

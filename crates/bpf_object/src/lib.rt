@@ -1,5 +1,8 @@
 //! Canonical object files: what a BPF object file holds beside its sections, symbols and relocations
 //! (Linux Documentation/bpf/btf.rst, "4. ELF File Format Interface").
+//!
+//! [`check_extension`] checks the section .BTF.ext by the rules of `specs/Extension.antt` and
+//! `specs/Lines.antt`, in their sequence.
 
 #![tactic(auto)]
 

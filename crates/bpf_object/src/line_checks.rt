@@ -141,13 +141,17 @@ pub(crate) fn check_pairs(x: Source<'_>) -> Result<(), ObjectFault>
     let mut lines = first_group(x, Part::Lines);
     loop {
         match (functions, lines) {
-            (Some(function), Some(line)) => {
-                check_pair(x, function, line)?;
-                functions = next_in(x, Part::Functions, function);
-                lines = next_in(x, Part::Lines, line);
+            (Some(function_group), Some(line_group)) => {
+                check_pair(x, function_group, line_group)?;
+                functions = next_in(x, Part::Functions, function_group);
+                lines = next_in(x, Part::Lines, line_group);
             }
-            (Some(function), None) => return report_single(x, Part::Functions, function),
-            (None, Some(line)) => return report_single(x, Part::Lines, line),
+            (Some(function_group), None) => return report_single(
+                x,
+                Part::Functions,
+                function_group,
+            ),
+            (None, Some(line_group)) => return report_single(x, Part::Lines, line_group),
             (None, None) => return Ok(()),
         }
     }

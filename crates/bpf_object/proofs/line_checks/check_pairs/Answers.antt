@@ -30,7 +30,7 @@ pub returns-in_err-check_pair-in-Some-Some : goal.returns-in_err-check_pair-in-S
 returns-in_err-check_pair-in-Some-Some c =
     let here =
     c.loop-functions.invariant.0 ∙ (pairs_at (section c.args.x) _ _ _ _ c.in-Some-Some.is-0 c.in-Some-Some.is-1
-    ∙ pairs_fault (section c.args.x) c.in-Some-Some.function c.in-Some-Some.line _ c.in_err-check_pair-in-Some-Some.ensures) in
+    ∙ pairs_fault (section c.args.x) c.in-Some-Some.function_group c.in-Some-Some.line_group _ c.in_err-check_pair-in-Some-Some.ensures) in
     search rules
 
 pub next_in-functions-requires : goal.next_in-functions-requires
@@ -41,15 +41,15 @@ next_in-lines-requires c = group_there c.args.x Lines c.loop-functions.lines _ c
 
 pub loop-functions-smaller : goal.loop-functions-smaller
 loop-functions-smaller c =
-    fewer_groups (section c.args.x) Functions c.loop-functions.functions c.in-Some-Some.function _ c.in-Some-Some.is-0 c.next_in-functions.ensures
+    fewer_groups (section c.args.x) Functions c.loop-functions.functions c.in-Some-Some.function_group _ c.in-Some-Some.is-0 c.next_in-functions.ensures
 
 pub loop-functions-preserved : goal.loop-functions-preserved
 loop-functions-preserved c = (
   c.loop-functions.invariant.0 ∙ (pairs_at (section c.args.x) _ _ _ _ c.in-Some-Some.is-0 c.in-Some-Some.is-1
-      ∙ pairs_after (section c.args.x) c.in-Some-Some.function c.in-Some-Some.line _ _ c.next_in-functions.ensures c.next_in-lines.ensures c.in_ok-check_pair-in-Some-Some.ensures),
+      ∙ pairs_after (section c.args.x) c.in-Some-Some.function_group c.in-Some-Some.line_group _ _ c.next_in-functions.ensures c.next_in-lines.ensures c.in_ok-check_pair-in-Some-Some.ensures),
   (
-    groups_after c.args.x Functions c.loop-functions.functions c.in-Some-Some.function _ c.in-Some-Some.is-0 c.next_in-functions.ensures c.loop-functions.invariant.1.0,
-    groups_after c.args.x Lines c.loop-functions.lines c.in-Some-Some.line _ c.in-Some-Some.is-1 c.next_in-lines.ensures c.loop-functions.invariant.1.1,
+    groups_after c.args.x Functions c.loop-functions.functions c.in-Some-Some.function_group _ c.in-Some-Some.is-0 c.next_in-functions.ensures c.loop-functions.invariant.1.0,
+    groups_after c.args.x Lines c.loop-functions.lines c.in-Some-Some.line_group _ c.in-Some-Some.is-1 c.next_in-lines.ensures c.loop-functions.invariant.1.1,
   ),
 )
 
@@ -59,7 +59,7 @@ report_single-requires c = group_there c.args.x Functions c.loop-functions.funct
 pub returns-in-Some-None : goal.returns-in-Some-None
 returns-in-Some-None c =
     let s = section c.args.x in
-    same_checks (pairs_rules s (groups s Functions) (groups s Lines)) (pairs_rules s (rest_of s Functions (Some c.in-Some-None.function)) []) _
+    same_checks (pairs_rules s (groups s Functions) (groups s Lines)) (pairs_rules s (rest_of s Functions (Some c.in-Some-None.function_group)) []) _
     (c.loop-functions.invariant.0 ∙ pairs_at s _ _ _ _ c.in-Some-None.is-0 c.in-Some-None.is-1)
     c.report_single.ensures
 
@@ -69,7 +69,7 @@ report_single-requires-in-None-Some c = group_there c.args.x Lines c.loop-functi
 pub returns-in-None-Some : goal.returns-in-None-Some
 returns-in-None-Some c =
     let s = section c.args.x in
-    same_checks (pairs_rules s (groups s Functions) (groups s Lines)) (pairs_rules s [] (rest_of s Lines (Some c.in-None-Some.line))) _
+    same_checks (pairs_rules s (groups s Functions) (groups s Lines)) (pairs_rules s [] (rest_of s Lines (Some c.in-None-Some.line_group))) _
     (c.loop-functions.invariant.0 ∙ pairs_at s _ _ _ _ c.in-None-Some.is-0 c.in-None-Some.is-1)
     c.report_single-in-None-Some.ensures
 
