@@ -1,5 +1,6 @@
-//! Canonical object files: what a BPF object file holds beside its sections, symbols and relocations
-//! (Linux Documentation/bpf/btf.rst, "4. ELF File Format Interface").
+//! Parts of canonical object files: the rules on the section .BTF.ext (Linux
+//! Documentation/bpf/btf.rst, "4.2 .BTF.ext section"), and the bytes of a file of given sections
+//! (System V ABI, "ELF Header" and "Sections"). What is between the two isn't written yet.
 //!
 //! [`check_extension`] checks the section .BTF.ext by the rules of `specs/Extension.antt` and
 //! `specs/Lines.antt`, in their sequence.
@@ -19,3 +20,4 @@ mod tests;
 
 pub use extension::{Part, check_extension};
 pub use fault::{ObjectCause, ObjectFault};
+pub use file::{WrittenSection, write_file};
