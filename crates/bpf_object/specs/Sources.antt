@@ -1,4 +1,3 @@
--- Only private contracts cite this file.
 -- What a section that is being checked means, and what is known of it.
 use Rattle.std.specs.Prelude.{◌≡◌, ℕ, ◌+◌, ◌≤◌, true, length}
 use Rattle.std.specs.List.{All}
