@@ -146,12 +146,8 @@ pub(crate) fn check_pairs(x: Source<'_>) -> Result<(), ObjectFault>
                 functions = next_in(x, Part::Functions, function_group);
                 lines = next_in(x, Part::Lines, line_group);
             }
-            (Some(function_group), None) => return report_single(
-                x,
-                Part::Functions,
-                function_group,
-            ),
-            (None, Some(line_group)) => return report_single(x, Part::Lines, line_group),
+            (Some(group), None) => return report_single(x, Part::Functions, group),
+            (None, Some(group)) => return report_single(x, Part::Lines, group),
             (None, None) => return Ok(()),
         }
     }

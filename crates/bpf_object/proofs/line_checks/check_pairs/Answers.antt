@@ -59,7 +59,7 @@ report_single-requires c = group_there c.args.x Functions c.loop-functions.funct
 pub returns-in-Some-None : goal.returns-in-Some-None
 returns-in-Some-None c =
     let s = section c.args.x in
-    same_checks (pairs_rules s (groups s Functions) (groups s Lines)) (pairs_rules s (rest_of s Functions (Some c.in-Some-None.function_group)) []) _
+    same_checks (pairs_rules s (groups s Functions) (groups s Lines)) (pairs_rules s (rest_of s Functions (Some c.in-Some-None.group)) []) _
     (c.loop-functions.invariant.0 ∙ pairs_at s _ _ _ _ c.in-Some-None.is-0 c.in-Some-None.is-1)
     c.report_single.ensures
 
@@ -69,7 +69,7 @@ report_single-requires-in-None-Some c = group_there c.args.x Lines c.loop-functi
 pub returns-in-None-Some : goal.returns-in-None-Some
 returns-in-None-Some c =
     let s = section c.args.x in
-    same_checks (pairs_rules s (groups s Functions) (groups s Lines)) (pairs_rules s [] (rest_of s Lines (Some c.in-None-Some.line_group))) _
+    same_checks (pairs_rules s (groups s Functions) (groups s Lines)) (pairs_rules s [] (rest_of s Lines (Some c.in-None-Some.group))) _
     (c.loop-functions.invariant.0 ∙ pairs_at s _ _ _ _ c.in-None-Some.is-0 c.in-None-Some.is-1)
     c.report_single-in-None-Some.ensures
 
