@@ -77,7 +77,8 @@ fn push_table<A: Allocator>(
     count: u16,
 ) -> Result<(), AllocError>
     requires { 0 < count }
-    ensures { OnOk result (out.new.items ≡ out.old.items ++ spec.file_table order flags table count) }
+    ensures { OnOk result (out.new.items
+        ≡ out.old.items ++ spec.file_table order flags table count) }
 {
     push64(out, order, table)?;
     push32(out, order, flags)?;
