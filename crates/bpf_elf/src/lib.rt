@@ -23,7 +23,7 @@ pub use elf::Elf;
 pub use fault::{ElfCause, ElfFault};
 pub use header::FILE_LIMIT;
 pub use kinds::{Kind, is_reserved};
-pub use names::{is_section_name, string_at};
+pub use names::{is_closed, is_section_name, string_at};
 pub use relocations::Relocation;
 pub use sections::SectionHeader;
 pub use symbols::Symbol;

@@ -8,8 +8,8 @@ use memchr::memchr;
 /// The longest name of a section, in bytes.
 const NAME_LIMIT: usize = 1_024;
 
-/// Whether a string table begins and ends with a NUL.
-pub(crate) fn is_closed(strings: &[u8]) -> bool
+/// Whether a string table begins and ends with a NUL, as [`string_at`] requires.
+pub fn is_closed(strings: &[u8]) -> bool
     ensures { result ≡ spec.is_closed strings.now }
 {
     !strings.is_empty() && strings[0] == 0 && strings[strings.len() - 1] == 0

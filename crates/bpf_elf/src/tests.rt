@@ -3,7 +3,10 @@
 
 mod object;
 
-use crate::{Elf, ElfCause, ElfFault, Kind, Relocation, SectionHeader, Symbol, is_reserved};
+use crate::{
+    Elf, ElfCause, ElfFault, Kind, Relocation, SectionHeader, Symbol, is_closed, is_reserved,
+    is_section_name, string_at,
+};
 use bpf_words::Order;
 use object::object;
 use std::alloc::AllocError;
@@ -130,4 +133,12 @@ fn names_of_tables_are_reserved(rt: HostRuntime) {
     for (name, wanted) in NAMES {
         equal(&rt, &is_reserved(name), wanted, name);
     }
+}
+
+#[test]
+fn strings_end_at_the_next_nul(rt: HostRuntime) {
+    let strings = b"\0text\0";
+    assert!(rt; is_closed(strings) && !is_closed(b"\0text") && !is_closed(b""));
+    assert_eq!(rt; string_at(strings, 3), b"xt".as_slice());
+    assert!(rt; is_section_name(strings, 5) && !is_section_name(strings, 6));
 }
