@@ -81,10 +81,15 @@ class Worker:
     @classmethod
     def begin(cls, setup: Setup) -> None:
         cls.setup = setup
-        resource.setrlimit(resource.RLIMIT_AS, (MAX_MEMORY, MAX_MEMORY))
         module = importlib.import_module(setup.key_module)
         cls.key_of, cls.refusal = staticmethod(module.key_of), module.Refused
         cls.views = Views(list(setup.line))
+
+    @classmethod
+    def begin_process(cls, setup: Setup) -> None:
+        """Begin in a process of its own, whose memory is limited."""
+        resource.setrlimit(resource.RLIMIT_AS, (MAX_MEMORY, MAX_MEMORY))
+        cls.begin(setup)
 
     @classmethod
     def change(cls, number: int) -> Changed:
@@ -112,7 +117,7 @@ def viewed(number: int) -> Viewed:
 
 def compare_changes(setup: Setup, numbers: Sequence[int], jobs: int) -> Result:
     result = Result(len(numbers))
-    with ProcessPoolExecutor(jobs, initializer=Worker.begin, initargs=(setup,)) as pool:
+    with ProcessPoolExecutor(jobs, initializer=Worker.begin_process, initargs=(setup,)) as pool:
         for found in pool.map(keyed, numbers, chunksize=CHUNK):
             add_key(result, found)
         numbers_of = [it for group in result.groups.values() if len(group) > 1 for it in group]

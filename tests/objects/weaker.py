@@ -62,7 +62,7 @@ def known_words(setup: Setup) -> Iterator[str]:
 
 def count_differences(setup: Setup, jobs: int) -> Counter[str]:
     """How many pairs each kind of line tells apart of those that libbpf sees differently."""
-    with ProcessPoolExecutor(jobs, initializer=Worker.begin, initargs=(setup,)) as pool:
+    with ProcessPoolExecutor(jobs, initializer=Worker.begin_process, initargs=(setup,)) as pool:
         objects = [it for it in pool.map(lines_of_number, range(TRIED), chunksize=CHUNK) if it.lines]
         words = {first_word(line) for it in objects for line in it.lines}.difference(NOT_TRIED)
         pairs = {word: list(merged(objects, word)) for word in words}
