@@ -29,7 +29,7 @@ piece_word strings flag h (x ∷ xs) (ws ∷ wss) (suc i) m of z low word =
     ∙ ap (λ (t : List ℕ). get_or t (item_words (kind_number h) * i + m) 0) (drop_at ws (concat wss) (length ws) refl) ∙ rest)
 
 -- a head whose record has items has no fields of its own after the third, and vlen counts its items
-no_tail : (h : TypeHead) → 0 < item_words (kind_number h) → head_tail h ≡ []
+pub no_tail : (h : TypeHead) → 0 < item_words (kind_number h) → head_tail h ≡ []
 unfolding item_words
 no_tail (KInt name size encoding offset bits) some = absurd (omega arith)
 no_tail (KArray target index count) some = absurd (omega arith)
@@ -37,7 +37,7 @@ no_tail (KVar name target linkage) some = absurd (omega arith)
 no_tail (KDeclTag name flag target component) some = absurd (omega arith)
 no_tail h some = refl
 
-counted : (h : TypeHead) (xs : List TypeItem) → 0 < item_words (kind_number h) → vlen_from h xs ≡ length xs
+pub counted : (h : TypeHead) (xs : List TypeItem) → 0 < item_words (kind_number h) → vlen_from h xs ≡ length xs
 unfolding item_words
 counted (KFunc name linkage target) xs some = absurd (omega arith)
 counted h xs some = refl

@@ -61,11 +61,15 @@ impl<'a> Record<'a> {
     pub(crate) fn word_or_zero(&self, j: usize) -> u32
         ensures { result ≡ slice_index self.now j }
     {
-        if j < self.words() { self.word(j) } else { 0 }
+        if j < self.word_count() {
+            self.word(j)
+        } else {
+            0
+        }
     }
 
-    /// The number of words.
-    pub(crate) fn words(&self) -> usize
+    /// The number of words: three, and those that its kind and vlen determine.
+    pub fn word_count(&self) -> usize
         ensures { result ≡ length self.now }
     {
         3 + tail_words(kind_of(self.info), vlen_of(self.info))
@@ -90,7 +94,7 @@ impl<'a> Record<'a> {
 
     /// kind_flag: bit 31 of the info field, 0 or 1.
     #[inline(always)]
-    pub(crate) fn kind_flag(&self) -> u32
+    pub fn kind_flag(&self) -> u32
         ensures { result ≡ frames.flag self.now }
     {
         flag_of(self.info)

@@ -1,10 +1,10 @@
--- What the phases leave is a table of what the file denotes.
-use Rattle.std.proofs.Common.{◌≡◌, ℕ, arith, List, [], ◌∷◌, ◌++◌, map, refl, sym, ap, ◌∙◌}
+-- What the phases leave is a table of the sections of the file.
+use Rattle.std.proofs.Common.{◌≡◌, ℕ, arith, List, [], ◌∷◌, ◌++◌, map, refl, sym, ap, subst, ◌∙◌}
 use Rattle.std.specs.List.{AllZip, concat}
 use Rattle.bpf_words.specs.declared.Order.{Order}
 use Rattle.btf_raw.specs.{declared.header.Header.Header, Header.Cut, Header.HasNulEnds, Frames.Frames, Frames.bytes_of, Frames.section_of}
-use Rattle.btf_types.specs.{Values.TypeRecord, Denotes.Denotes, Good.IsGood, Spelling.Spells, Spelling.IsRecord}
-use Rattle.btf_types.specs.{Reading.frames_at, Reading.records_at, Sections.words_at, tables.TableInvariant.IsTable, tables.TableInvariant.IsChecked}
+use Rattle.btf_types.specs.{Values.TypeRecord, Denotes.Denotes, Denotes.HoldsSections, Good.IsGood, Spelling.Spells, Spelling.IsRecord}
+use Rattle.btf_types.specs.{Reading.frames_at, Sections.words_at, tables.TableInvariant.IsTable, tables.TableInvariant.IsChecked}
 use Rattle.btf_types.proofs.CheckLemmas.PhaseSteps.{HasFrames, types_of, strings_of, fails_strings, fails_framing, fails_fields, strings_checked, framing_checked}
 
 pub concat-map : (o : Order) (frames : List (List ℕ)) → concat (map (bytes_of o) frames) ≡ section_of o frames
@@ -31,9 +31,17 @@ frames_denote b o types strings v frames cut ends framed spelled good = record {
   good = good;
 }
 
-pub table_denotes : (b : List ℕ) (h : Header) (places : List ℕ) → HasFrames b h places → IsTable (words_at h.order (types_of b h) (strings_of b h) places) → Denotes b (records_at h.order (types_of b h) (strings_of b h) places)
-table_denotes b h places has right =
-    frames_denote b h.order (types_of b h) (strings_of b h) _ (frames_at h.order (types_of b h) places) has.has_strings.header.reads.cut has.has_strings.ends has.framed.frames right.spelled right.good
+pub holds_sections : (b : List ℕ) (h : Header) (places : List ℕ) → HasFrames b h places → IsTable (words_at h.order (types_of b h) (strings_of b h) places)
+    → HoldsSections b (words_at h.order (types_of b h) (strings_of b h) places)
+holds_sections b h places has right =
+    let cut = has.has_strings.header.reads.cut in
+    let framed = has.framed.frames in
+    let frames = frames_at h.order (types_of b h) places in
+    record {
+      cut = subst (λ (types : List ℕ). Cut b h.order types (strings_of b h)) framed.whole cut;
+      each = framed.each;
+      denotes = frames_denote b h.order (types_of b h) (strings_of b h) _ frames cut has.has_strings.ends framed right.spelled right.good;
+    }
 
 pub is_checked : (b : List ℕ) (h : Header) (places : List ℕ) → HasFrames b h places → IsTable (words_at h.order (types_of b h) (strings_of b h) places) → IsChecked h.order (types_of b h) (strings_of b h) places
 is_checked b h places has right = record {
@@ -43,4 +51,4 @@ is_checked b h places has right = record {
 }
 
 -- what the search cites of the phases of a parser
-pub ruleset phases = (fails_strings, fails_framing, fails_fields, strings_checked, framing_checked, table_denotes, is_checked)
+pub ruleset phases = (fails_strings, fails_framing, fails_fields, strings_checked, framing_checked, holds_sections, is_checked)

@@ -8,7 +8,7 @@
 //! (`view.rt`), which also keeps the ends of long strings.
 
 ghost use Rattle.std.specs.Prelude.{◌≡◌, MatchResult, length};
-ghost use Rattle.btf_types.specs.{Denotes.Denotes, Sections.records_in};
+ghost use Rattle.btf_types.specs.Denotes.{HoldsSections};
 ghost use Rattle.btf_types.specs.tables.Tables as tables;
 
 use crate::checks::fields::check_fields;
@@ -33,12 +33,12 @@ pub struct CheckedFile<'a, A: Allocator = Global> {
 }
 
 impl<'a, A: Allocator> Model for CheckedFile<'a, A> {
-    ghost use Rattle.btf_types.specs.Reading.{records_at};
-    ghost use Rattle.btf_types.specs.tables.{TablePlaces.TypeRecords, TableInvariant.IsChecked};
+    ghost use Rattle.btf_types.specs.Sections.{SectionWords, words_at};
+    ghost use Rattle.btf_types.specs.tables.TableInvariant.{IsChecked};
 
-    ghost Value = { TypeRecords };
+    ghost Value = { SectionWords };
 
-    ghost view = { λ f. records_at f.order f.types.now f.strings.now f.places.items };
+    ghost view = { λ f. words_at f.order f.types.now f.strings.now f.places.items };
 
     ghost invariant = { λ f. IsChecked f.order f.types.now f.strings.now f.places.items };
 }
@@ -65,7 +65,7 @@ impl<'a, A: Allocator> CheckedFile<'a, A> {
     /// fields, each by offset and then by cause. `Memory` if memory can't be allocated.
     #[tactic(auto, using(crate::proofs::TableLemmas::TableSteps::phases))]
     pub fn check(alloc: A, bytes: &'a [u8]) -> Result<CheckedFile<'a, A>, BtfError>
-        ensures { MatchResult result (λ f. Denotes bytes.now f) (λ e. tables.Fails bytes.now e) }
+        ensures { MatchResult result (λ f. HoldsSections bytes.now f) (λ e. tables.Fails bytes.now e) }
     {
         let header = read_header(bytes)?;
         let order = header.order;
@@ -90,16 +90,15 @@ impl<'a, A: Allocator> CheckedFile<'a, A> {
     }
 
     /// The number of records, which is also the largest ID.
-    #[tactic(auto, using(crate::proofs::TableLemmas::TableReads::placed))]
     pub fn count(&self) -> u32
-        ensures { result ≡ length self.now }
+        ensures { result ≡ length self.now.frames }
     {
         self.places.len() as u32
     }
 
     /// The sections of the file.
     pub fn sections(&self) -> FileSections<'_>
-        ensures { self.now ≡ records_in result }
+        ensures { result ≡ self.now }
     {
         FileSections::new(self.order, self.types, self.strings, &self.places)
     }

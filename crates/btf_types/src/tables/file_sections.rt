@@ -55,6 +55,14 @@ impl<'t> FileSections<'t> {
         }
     }
 
+    /// The byte order of the file.
+    pub fn order(&self) -> Order
+        ensures is { result ≡ self.now.order }
+        ensures table { IsTable self.now }
+    {
+        self.order
+    }
+
     /// The number of records, which is also the largest ID.
     pub fn count(&self) -> u32
         ensures count { result ≡ length self.now.frames }

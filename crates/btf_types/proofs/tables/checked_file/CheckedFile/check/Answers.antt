@@ -1,8 +1,8 @@
 use Rattle.std.proofs.Common.{◌≡◌, ◌+◌, ◌-◌, List, ℕ, take, drop, refl, arith}
 use Rattle.btf_raw.specs.{declared.header.Header.Header, ReadHeader.ReadsHeader, Cause.HasNone, Header.HasNulEnds, Header.HeaderFault, Header.part}
-use Rattle.btf_types.specs.{Denotes.Denotes, Reading.records_at, tables.TableInvariant.IsFramed}
+use Rattle.btf_types.specs.{Denotes.HoldsSections, Sections.words_at, tables.TableInvariant.IsFramed}
 use Rattle.btf_types.proofs.CheckLemmas.PhaseSteps.{HasFrames, types_of, strings_of, strings_checked, framing_checked, fails_fields}
-use Rattle.btf_types.proofs.TableLemmas.TableSteps.{is_checked, table_denotes}
+use Rattle.btf_types.proofs.TableLemmas.TableSteps.{is_checked, holds_sections}
 use Rattle.btf_types.proofs.tables.checked_file.CheckedFile.check.Goals as goal
 
 -- the bytes from one offset to another are a part
@@ -45,6 +45,6 @@ returns g c =
     let places = c.in-Ok.places.items in
     let frames = frames_read b h _ _ places c.in_ok-header.ensures types strings c.in_default.ensures.cases c.in-Ok.ensures.cases in
     let right = rw (types, strings, c.deref.ensures.value) at c.in_default-check_fields.ensures.cases in
-    let denotes : Denotes b (records_at h.order (take (h.types_pos + h.types_len - h.types_pos) (drop h.types_pos b)) (take (h.str_pos + h.str_len - h.str_pos) (drop h.str_pos b)) places) =
-    rw (types, strings) (table_denotes b h places frames right) in
-    denotes
+    let holds : HoldsSections b (words_at h.order (take (h.types_pos + h.types_len - h.types_pos) (drop h.types_pos b)) (take (h.str_pos + h.str_len - h.str_pos) (drop h.str_pos b)) places) =
+    rw (types, strings) (holds_sections b h places frames right) in
+    holds
