@@ -14,6 +14,9 @@
 //! btf/write/sections.rt       reads the records again, and writes each with its new name_off
 //! btf/write/head_words.rt       the header before them, and the words of a record
 //! ```
+//!
+//! A canonical object file has another string table, in which no names share bytes. Its offsets are
+//! found by `btf/strings/distinct_places.rt`, and its records written by `btf/write/sections.rt`.
 
 #![tactic(auto)]
 
@@ -28,6 +31,10 @@ pub use bpf_insn::{InsnError, Order, first_fault};
 pub use btf::btf_laws;
 pub use btf::canon::{canon_btf, recode_btf, same_btf};
 pub use btf::run::{BTF_LIMIT, run_btf};
+pub use btf::strings::distinct_places::DistinctPlaces;
+pub use btf::strings::used_offsets::FirstUses;
+pub use btf::write::head_words::push_header;
+pub use btf::write::sections::{note_names, push_types};
 pub use btf::write::table::write_btf;
 pub use device::{
     ByteSink, ByteSource, DeviceFailed, MemSink, MemSource, ReadError, ReaderSource, WriterSink,

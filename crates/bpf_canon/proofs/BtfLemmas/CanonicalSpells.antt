@@ -48,7 +48,7 @@ concat-map f (x ∷ xs) = ap (λ (t : List ℕ). f x ++ t) (concat-map f xs)
 
 -- ---- a head
 
-flag_spells : (h : TypeHead) (bit_fields : Bool) → FlagSpells h (canonical_flag h bit_fields)
+pub flag_spells : (h : TypeHead) (bit_fields : Bool) → FlagSpells h (canonical_flag h bit_fields)
 flag_spells h bit_fields = grind arith
 
 pub third_below : (h : TypeHead) → HeadInRange h → head_third h < 2 ^ 32
@@ -127,7 +127,7 @@ record_spells strings place types r short good at =
           (IsWords-append (head_tail r.head) (flat_map (words_of_item place) r.items) (tail_fits r.head good.head_in_range) items.fits);
     }
 
-records_spell : (strings : List ℕ) (place : List ℕ → ℕ) (types : List TypeFacts) (v : List TypeRecord) → length strings ≤ STRINGS_LIMIT → All (IsGoodRecord types) v
+pub records_spell : (strings : List ℕ) (place : List ℕ → ℕ) (types : List TypeFacts) (v : List TypeRecord) → length strings ≤ STRINGS_LIMIT → All (IsGoodRecord types) v
     → All (λ n. NameAt strings (place n) n) (flat_map record_names v) → AllZip (Spells strings) v (map (record_words place) v)
 records_spell strings place types [] short good at = tt
 records_spell strings place types (r ∷ v) short good at = (
@@ -135,7 +135,7 @@ records_spell strings place types (r ∷ v) short good at = (
   records_spell strings place types v short (All-tail (IsGoodRecord types) r v good) (All-back (λ n. NameAt strings (place n) n) (record_names r) (flat_map record_names v) at),
 )
 
-all_names : (types : List TypeFacts) (v : List TypeRecord) → All (IsGoodRecord types) v → All IsName (flat_map record_names v)
+pub all_names : (types : List TypeFacts) (v : List TypeRecord) → All (IsGoodRecord types) v → All IsName (flat_map record_names v)
 all_names types [] good = All-nil IsName
 all_names types (r ∷ v) good =
     All-append IsName (record_names r) (flat_map record_names v) (All-head (IsGoodRecord types) r v good).names (all_names types v (All-tail (IsGoodRecord types) r v good))

@@ -16,3 +16,4 @@ pub mod HostPlaceSteps
 pub mod FoundPlaces
 pub mod SpanSteps
 pub mod TableSpans
+pub mod DistinctSteps

@@ -26,6 +26,8 @@
 //! - `shared_places.rt`: the host of a name is found from the first rank whose string ends with it:
 //!   it is the next string, from there on, that isn't a suffix of the one after it. Hosts are
 //!   appended to the table in the order of first use, and each name is at the end of its host.
+//! - `distinct_places.rt`: instead, the table of a canonical object file, in which no names share
+//!   bytes.
 //!
 //! A hash could only find equal strings, and a host is a longer one. Sorting puts strings with a
 //! common end next to each other, and nobody can choose names that collide. That the hosts are
@@ -33,6 +35,8 @@
 //! `common_tails_tell_hosts` of `btf_types`. A table without sections has another algorithm
 //! (`names.rt`).
 
+pub(crate) mod distinct_places;
+pub(crate) mod name_places;
 mod ranked_texts;
 pub(crate) mod shared_places;
 pub(crate) mod used_offsets;

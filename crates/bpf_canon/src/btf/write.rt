@@ -1,5 +1,5 @@
 //! BTF records, written in canonical form (btf.rst section 2.2).
 
-mod head_words;
+pub(crate) mod head_words;
 pub(crate) mod sections;
 pub(crate) mod table;

@@ -5,10 +5,13 @@ use super::btf_files::{BIG_INT, LOOSE_INT};
 use super::compiled_types::{flow_table_big, flow_table_little};
 use super::expect::{equal, holds, is_bytes};
 use super::own_table::Counting;
-use crate::{MemSink, MemSource, RunCause, SideError, canon_btf, run_btf, same_btf, write_btf};
+use crate::{
+    DistinctPlaces, FirstUses, MemSink, MemSource, RunCause, SideError, canon_btf, note_names,
+    push_header, push_types, run_btf, same_btf, write_btf,
+};
 use bpf_words::Order;
 use btf_raw::{BtfCause, BtfFault};
-use btf_types::{BtfError, BtfView};
+use btf_types::{BtfError, BtfView, CheckedFile};
 use bumpalo::Bump;
 use std::alloc::{AllocError, Allocator, Global};
 use std::process::Abort;
@@ -74,9 +77,41 @@ fn sink(alloc: Global, bump: &Bump<Global>) -> Outcome {
     sunk(&ran, &out, BIG_INT)
 }
 
+/// A file of the compiled types whose names share no bytes, or `None` if it would be too long.
+#[tactic(auto, using(crate::proofs::BtfLemmas::Write::SectionFiles::section_steps))]
+fn distinct_file<A: Allocator + Copy>(
+    alloc: A,
+    file: &CheckedFile<'_>,
+) -> Result<Option<Vec<u8, A>>, AllocError> {
+    let sections = file.sections();
+    let types_len = sections.types().len() as u32;
+    let mut uses = FirstUses::new(alloc, sections.strings())?;
+    note_names(&mut uses, &sections)?;
+    let Some(names) = DistinctPlaces::find(alloc, uses, u32::MAX)? else {
+        return Ok(None);
+    };
+    let mut out = Vec::new(alloc);
+    push_header(&mut out, Order::Big, types_len, names.table_len())?;
+    push_types(&mut out, Order::Big, &names, &sections)?;
+    names.push_table(&mut out)?;
+    Ok(Some(out))
+}
+
+fn distinct(alloc: Global, bump: &Bump<Global>, canonical: &[u8]) -> Outcome {
+    let Ok(file) = CheckedFile::check(alloc, flow_table_little()) else {
+        return Outcome::Wrong;
+    };
+    match distinct_file(bump, &file) {
+        Ok(Some(bytes)) => whole_if(is_bytes(canon_btf(alloc, &bytes), canonical)),
+        Ok(None) => Outcome::Wrong,
+        Err(AllocError) => Outcome::Refused(0),
+    }
+}
+
 #[derive(Clone, Copy, Debug)]
 enum Call {
     Write,
+    Distinct,
     Parse,
     Canonicalise,
     Run,
@@ -95,6 +130,7 @@ impl ArenaCall for AmpleCall<'_> {
         let ample = self.ample;
         match self.call {
             Call::Write => write(bump, ample.view, ample.big),
+            Call::Distinct => distinct(alloc, bump, ample.little),
             Call::Parse => parse(alloc, bump, ample.little),
             Call::Canonicalise => written(&canon_btf(bump, flow_table_big()), ample.little),
             Call::Run => run(alloc, bump, ample.little),
@@ -131,8 +167,9 @@ struct MemoryRow {
 }
 
 #[rattlefmt::skip]
-static ROWS: [MemoryRow; 5] = [
+static ROWS: [MemoryRow; 6] = [
     MemoryRow { call: Call::Write, rooms: Rooms::Any, refused: CANONICAL_LEN, places: 4, last_place: 0 },
+    MemoryRow { call: Call::Distinct, rooms: Rooms::Any, refused: CANONICAL_LEN, places: 1, last_place: 0 },
     MemoryRow { call: Call::Parse, rooms: Rooms::Any, refused: 0, places: 0, last_place: 0 },
     // Some rooms are enough to read the file, but not to write it.
     MemoryRow { call: Call::Canonicalise, rooms: Rooms::More, refused: CANONICAL_LEN, places: 1, last_place: 0 },

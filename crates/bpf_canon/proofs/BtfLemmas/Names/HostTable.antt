@@ -31,7 +31,7 @@ not_before [] k n h = absurd (omega (arith, h))
 not_before (x ∷ xs) zero n h = λ i. i
 not_before (x ∷ xs) (suc k) (n, ns) h = grind (arith, Has-get_or, (not_before xs k ns (omega (arith, h))))
 
-place_stays_all : (rest ks : List (List ℕ)) (y : List ℕ) → Has ks y → place_in (ks ++ rest) y ≡ place_in ks y
+pub place_stays_all : (rest ks : List (List ℕ)) (y : List ℕ) → Has ks y → place_in (ks ++ rest) y ≡ place_in ks y
 place_stays_all [] ks y h = ap (λ (l : List (List ℕ)). place_in l y) (append-nil ks)
 place_stays_all (r ∷ rest) ks y h = grind (arith, append_assoc, place_stays, (place_stays_all rest (ks ++ r ∷ []) y (Has-front ks (r ∷ []) y h)))
 

@@ -22,11 +22,11 @@ one_more frames i f is =
 pub item_noted : (offs : List ℕ) (f : ℕ → ℕ) (k : ℕ) → noted (noted_all offs (tabulate f k)) (f k) ≡ noted_all offs (tabulate f (k + 1))
 item_noted offs f k = grind (arith, noted_all-append)
 
-pub record_noted : (frames : List (List ℕ)) (i : ℕ) (f : List ℕ) → slice_get frames (i + 1 - 1) ≡ Some f
-    → noted_all (noted_all [] (all_offsets (take i frames))) (name_offsets f) ≡ noted_all [] (all_offsets (take (i + 1) frames))
-record_noted frames i f is =
+pub record_noted : (offs : List ℕ) (frames : List (List ℕ)) (i : ℕ) (f : List ℕ) → slice_get frames (i + 1 - 1) ≡ Some f
+    → noted_all (noted_all offs (all_offsets (take i frames))) (name_offsets f) ≡ noted_all offs (all_offsets (take (i + 1) frames))
+record_noted offs frames i f is =
     rw (one_more frames i f is)
-    (sym (ap (noted_all []) (flat_map-append name_offsets (take i frames) (f ∷ []) ∙ ap (λ (t : List ℕ). all_offsets (take i frames) ++ t) (append-nil (name_offsets f))) ∙ noted_all-append [] (all_offsets (take i frames)) (name_offsets f)))
+    (sym (ap (noted_all offs) (flat_map-append name_offsets (take i frames) (f ∷ []) ∙ ap (λ (t : List ℕ). all_offsets (take i frames) ++ t) (append-nil (name_offsets f))) ∙ noted_all-append offs (all_offsets (take i frames)) (name_offsets f)))
 
 -- the names of a record are inside the strings
 pub names_inside : (strings f : List ℕ) → ReadsRecord strings f → All (IsBelow (length strings)) (name_offsets f)

@@ -49,7 +49,7 @@ known_push : (xs : List (List ℕ)) (x : List ℕ) → Has xs x → kept (xs ++ 
 known_push xs [] h = kept_empty xs
 known_push xs (b ∷ x) h = kept_known xs (b ∷ x) (Has-kept xs b x h)
 
-same_push : (xs ys : List (List ℕ)) (x : List ℕ) → kept xs ≡ kept ys → kept (xs ++ x ∷ []) ≡ kept (ys ++ x ∷ [])
+pub same_push : (xs ys : List (List ℕ)) (x : List ℕ) → kept xs ≡ kept ys → kept (xs ++ x ∷ []) ≡ kept (ys ++ x ∷ [])
 same_push xs ys [] e = kept_empty xs ∙ e ∙ sym (kept_empty ys)
 same_push xs ys (b ∷ x) e = grind (arith, kept_known, kept_new, (Has_cases (kept xs) (b ∷ x)))
 

@@ -1,4 +1,3 @@
--- Only private contracts cite this file.
 -- The distinct offsets of a string section at which names begin, in the order of first use.
 use Rattle.std.specs.Prelude.{◌≡◌, ◌≢◌, ℕ, zero, suc, ◌+◌, ◌/◌, ◌%◌, nat_eq, List, [], ◌∷◌, ◌++◌, length, slice_index, if◌then◌else◌}
 use Rattle.std.specs.{Int.bit_at, List.list_any, List.Contains}
@@ -7,7 +6,7 @@ use Rattle.std.specs.{Int.bit_at, List.list_any, List.Contains}
 abbrev pub noted : List ℕ → ℕ → List ℕ
 noted offsets off = if list_any (nat_eq off) offsets then offsets else offsets ++ off ∷ []
 
--- several more, in sequence
+-- several more offsets are noted, in sequence
 abbrev pub noted_all : List ℕ → List ℕ → List ℕ
 noted_all offsets [] = offsets
 noted_all offsets (off ∷ offs) = noted_all (noted offsets off) offs
@@ -17,6 +16,7 @@ pub record Noted : Type 0 where
   pub strings : List ℕ
   pub offsets : List ℕ
 
+-- a string section in which no offset has been noted
 abbrev pub nothing_noted : List ℕ → Noted
 nothing_noted strings = record { strings = strings; offsets = [] }
 

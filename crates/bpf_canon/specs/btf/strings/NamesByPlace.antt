@@ -1,4 +1,3 @@
--- Only private contracts cite this file.
 -- The names at offsets of a string section.
 use Rattle.std.specs.Prelude.{ℕ, List, map}
 use Rattle.btf_types.specs.Reading.{text_from}
@@ -8,6 +7,6 @@ pub record NamesByPlace : Type 0 where
   pub strings : List ℕ
   pub offsets : List ℕ
 
--- the strings of these names
+-- the names at these offsets
 abbrev pub placed_texts : NamesByPlace → List (List ℕ)
 placed_texts n = map (text_from n.strings) n.offsets

@@ -1,4 +1,3 @@
--- Only private contracts cite this file.
 -- The used offsets of a section in ascending order. An offset is used if its slot isn't 0.
 use Rattle.std.specs.Prelude.{◌≡◌, ℕ, zero, suc, ◌+◌, ◌*◌, ◌/◌, ◌<◌, ◌==◌, List, [], ◌∷◌, ◌++◌, length, slice_index, if◌then◌else◌}
 use Rattle.bpf_canon.specs.btf.strings.FirstUses.{slots_of, HaveMarks}

@@ -7,7 +7,7 @@
 //! so an offset in it fits into a name_off.
 
 ghost use Rattle.std.specs.Prelude.{◌≡◌, ◌<◌, ◌≤◌, ◌^◌, ◌++◌, length, map, IfOk, OnOk};
-ghost use Rattle.std.specs.{List.All, List.Contains};
+ghost use Rattle.std.specs.List.{All};
 ghost use Rattle.btf_raw.specs.Header.{HasNulEnds};
 ghost use Rattle.btf_types.specs.Reading.{text_from};
 ghost use Rattle.btf_types.specs.strings.SharedNames.{shared_table, shared_place};
@@ -16,6 +16,7 @@ ghost use Rattle.bpf_canon.specs.btf.strings.{HostPlaces.name_place, NamesByPlac
 ghost use Rattle.bpf_canon.specs.btf.strings.HostPlaces as places;
 ghost use Rattle.bpf_canon.specs.btf.strings.InHost as spec;
 
+use crate::btf::strings::name_places::NamePlaces;
 use crate::btf::strings::ranked_texts::{RankedTexts, first_rank, longest_texts, lower_ranks};
 use crate::btf::strings::used_offsets::{FirstUses, UsedOffsets};
 use std::alloc::{AllocError, Allocator};
@@ -269,16 +270,19 @@ impl<'a, A: Allocator + Copy> SharedPlaces<'a, A> {
     }
 }
 
-impl<A: Allocator> SharedPlaces<'_, A> {
-    /// The new offset of the name at a used offset. The index is the number of that offset, which
-    /// needs two loads and a count of bits, and no search.
-    pub(crate) fn place(&self, off: u32) -> u32
-        requires { Contains self.now.offsets off }
-        ensures { result ≡ shared_place (placed_texts self.now) (text_from self.now.strings off) }
-    {
+impl<A: Allocator> NamePlaces for SharedPlaces<'_, A> {
+    ghost names = { λ p. p };
+
+    ghost place_of = { λ p. shared_place (placed_texts p) };
+
+    /// The index is the number of the offset, which needs two loads and a count of bits, and no
+    /// search.
+    fn place(&self, off: u32) -> u32 {
         self.places[self.used.number(off as usize)]
     }
+}
 
+impl<A: Allocator> SharedPlaces<'_, A> {
     /// The length of the table in bytes.
     pub(crate) fn table_len(&self) -> u32
         ensures { result ≡ length (shared_table (placed_texts self.now)) }

@@ -21,7 +21,7 @@ use std::marker::Model;
 /// A bit set with one bit for each byte of the section, in `u64` elements, lowest bit first, so
 /// that little memory is cleared and touched.
 #[derive(Drop)]
-pub(crate) struct FirstUses<'a, A: Allocator> {
+pub struct FirstUses<'a, A: Allocator> {
     /// The bytes of the string section.
     pub(crate) strings: &'a [u8],
     /// The bit set.
@@ -53,8 +53,12 @@ fn is_marked(marks: &[u64], off: usize) -> bool
 
 impl<'a, A: Allocator + Copy> FirstUses<'a, A> {
     /// Creates an empty set of offsets of this section.
+    ///
+    /// # Errors
+    ///
+    /// `AllocError` if an allocation failed.
     #[tactic(auto, using(crate::proofs::BtfLemmas::Strings::MarkSteps::none_marked))]
-    pub(crate) fn new(alloc: A, strings: &'a [u8]) -> Result<FirstUses<'a, A>, AllocError>
+    pub fn new(alloc: A, strings: &'a [u8]) -> Result<FirstUses<'a, A>, AllocError>
         ensures { IfOk result (λ f. f ≡ nothing_noted strings.now) }
     {
         Ok(FirstUses {
@@ -64,9 +68,14 @@ impl<'a, A: Allocator + Copy> FirstUses<'a, A> {
         })
     }
 
-    /// Notes the offset of a name. On an error the set of noted offsets is unspecified.
+    /// Notes the offset of a name, which must be inside the section. One that is noted already
+    /// keeps its place in the order of first use.
+    ///
+    /// # Errors
+    ///
+    /// `AllocError` if an allocation failed. The set of noted offsets is then unspecified.
     #[tactic(auto, using(crate::proofs::BtfLemmas::Strings::MarkSteps::note_cases))]
-    pub(crate) fn note(&mut self, off: u32) -> Result<(), AllocError>
+    pub fn note(&mut self, off: u32) -> Result<(), AllocError>
         requires { off < length self.old.strings }
         ensures strings { self.new.strings ≡ self.old.strings }
         ensures offsets { OnOk result (self.new.offsets ≡ noted self.old.offsets off) }

@@ -67,9 +67,14 @@ pub(crate) fn head_vlen(head: Head<'_>, count: u32) -> u32
     }
 }
 
-/// Appends the 24-byte header (btf.rst section 2): magic, version 1, flags 0, hdr_len, type_off 0,
-/// type_len, str_off = type_len and str_len. The first three are written as one word.
-pub(crate) fn push_header<A: Allocator>(
+/// Appends the 24-byte header of a BTF section whose types are followed by its strings (btf.rst
+/// section 2): magic, version 1, flags 0, hdr_len, type_off 0, type_len, str_off = type_len and
+/// str_len. Both lengths are in bytes.
+///
+/// # Errors
+///
+/// `AllocError` if an allocation failed.
+pub fn push_header<A: Allocator>(
     out: &mut Vec<u8, A>,
     order: Order,
     types_len: u32,
@@ -78,6 +83,7 @@ pub(crate) fn push_header<A: Allocator>(
     ensures { OnOk result (out.new.items
         ≡ out.old.items ++ header order 24 0 types_len types_len strings_len) }
 {
+    // the first three fields
     let start = match order {
         Order::Little => 0x0001_eb9f,
         Order::Big => 0xeb9f_0100,

@@ -12,11 +12,14 @@ ghost use Rattle.btf_raw.specs.Frames.{IsFrame, bytes_of, section_of};
 ghost use Rattle.btf_types.specs.{Reading.record_of, tables.PlaceWords.ReadsRecord};
 ghost use Rattle.btf_types.specs.{Sections.records_in, Denotes.Denotes};
 ghost use Rattle.bpf_canon.specs.btf.CanonicalBtf.{record_words, canonical};
-ghost use Rattle.bpf_canon.specs.btf.strings.FirstUses.{noted_all};
+ghost use Rattle.bpf_canon.specs.btf.strings.{FirstUses.noted_all, NamesByPlace.placed_texts};
+ghost use Rattle.bpf_canon.specs.btf.strings.DistinctNames.{distinct_place};
 ghost use Rattle.bpf_canon.specs.btf.write.NameOffsets.{IsBelow, HasNotedNames, name_offsets};
-ghost use Rattle.bpf_canon.specs.btf.write.NameOffsets.{all_offsets, placed};
+ghost use Rattle.bpf_canon.specs.btf.write.NameOffsets.{all_offsets};
 ghost use Rattle.bpf_canon.specs.btf.write.BtfWords.{record_info};
 
+use crate::btf::strings::distinct_places::DistinctPlaces;
+use crate::btf::strings::name_places::NamePlaces;
 use crate::btf::strings::shared_places::SharedPlaces;
 use crate::btf::strings::used_offsets::FirstUses;
 use crate::btf::write::head_words::push_header;
@@ -47,8 +50,30 @@ fn note_record<A: Allocator + Copy>(
     Ok(())
 }
 
-/// The offsets of the names of all records, in the order of first use.
+/// Notes the names of all records in sequence: of each its own, then those of its items. The
+/// offsets must be those of the string section of `sections`.
+///
+/// # Errors
+///
+/// `AllocError` if an allocation failed. The set of noted offsets is then unspecified.
 #[tactic(auto, using(crate::proofs::BtfLemmas::Names::NoteSteps::record_noted))]
+pub fn note_names<A: Allocator + Copy>(
+    uses: &mut FirstUses<'_, A>,
+    sections: &FileSections<'_>,
+) -> Result<(), AllocError>
+    requires { uses.old.strings ≡ sections.now.strings }
+    ensures strings { uses.new.strings ≡ uses.old.strings }
+    ensures offsets { OnOk result (uses.new.offsets
+        ≡ noted_all uses.old.offsets (all_offsets sections.now.frames)) }
+{
+    for index in 0..sections.count() {
+        let this = sections.record(index + 1);
+        note_record(uses, &this)?;
+    }
+    Ok(())
+}
+
+/// The offsets of the names of all records, in the order of first use.
 fn noted_names<'t, A: Allocator + Copy>(
     alloc: A,
     sections: &FileSections<'t>,
@@ -58,10 +83,7 @@ fn noted_names<'t, A: Allocator + Copy>(
         ≡ noted_all [] (all_offsets sections.now.frames)) }
 {
     let mut uses = FirstUses::new(alloc, sections.strings())?;
-    for index in 0..sections.count() {
-        let this = sections.record(index + 1);
-        note_record(&mut uses, &this)?;
-    }
+    note_names(&mut uses, sections)?;
     Ok(uses)
 }
 
@@ -98,16 +120,16 @@ fn push_rest<A: Allocator>(
 }
 
 /// Appends a record.
-fn push_record<A: Allocator, B: Allocator + Copy>(
+fn push_record<A: Allocator, N: NamePlaces>(
     out: &mut Vec<u8, A>,
     to: Order,
-    names: &SharedPlaces<'_, B>,
+    names: &N,
     this: &Record,
 ) -> Result<(), AllocError>
-    requires reads { ReadsRecord names.now.strings this.now }
-    requires noted { HasNotedNames names.now this.now }
-    ensures { OnOk result (out.new.items ≡ out.old.items
-        ++ bytes_of to (record_words (placed names.now) (record_of names.now.strings this.now))) }
+    requires reads { ReadsRecord (N.names names.now).strings this.now }
+    requires noted { HasNotedNames (N.names names.now) this.now }
+    ensures { OnOk result (out.new.items ≡ out.old.items ++ bytes_of to
+        (record_words (N.place_of names.now) (record_of (N.names names.now).strings this.now))) }
 {
     let info = canonical_info(this);
     let name = names.place(this.word(0));
@@ -133,22 +155,43 @@ fn push_record<A: Allocator, B: Allocator + Copy>(
 }
 
 /// Appends all records.
-fn push_records<A: Allocator, B: Allocator + Copy>(
+fn push_records<A: Allocator, N: NamePlaces>(
     out: &mut Vec<u8, A>,
     to: Order,
-    names: &SharedPlaces<'_, B>,
+    names: &N,
     sections: &FileSections<'_>,
 ) -> Result<(), AllocError>
-    requires strings { names.now.strings ≡ sections.now.strings }
-    requires noted { All (Contains names.now.offsets) (all_offsets sections.now.frames) }
+    requires strings { (N.names names.now).strings ≡ sections.now.strings }
+    requires noted { All (Contains (N.names names.now).offsets) (all_offsets sections.now.frames) }
     ensures { OnOk result (out.new.items ≡ out.old.items
-        ++ section_of to (map (record_words (placed names.now)) (records_in sections.now))) }
+        ++ section_of to (map (record_words (N.place_of names.now)) (records_in sections.now))) }
 {
     for index in 0..sections.count() {
         let this = sections.record(index + 1);
         push_record(out, to, names, &this)?;
     }
     Ok(())
+}
+
+/// Appends the records of a checked file in the byte order `to` (btf.rst section 2.2), as in its
+/// canonical bytes, except that the offsets of names are those in `names`. The names must be noted
+/// ([`note_names`]) in the string section of `sections`.
+///
+/// # Errors
+///
+/// `AllocError` if an allocation failed.
+pub fn push_types<A: Allocator, B: Allocator>(
+    out: &mut Vec<u8, A>,
+    to: Order,
+    names: &DistinctPlaces<'_, B>,
+    sections: &FileSections<'_>,
+) -> Result<(), AllocError>
+    requires strings { names.now.strings ≡ sections.now.strings }
+    requires noted { All (Contains names.now.offsets) (all_offsets sections.now.frames) }
+    ensures { OnOk result (out.new.items ≡ out.old.items ++ section_of to
+        (map (record_words (distinct_place (placed_texts names.now))) (records_in sections.now))) }
+{
+    push_records(out, to, names, sections)
 }
 
 /// The canonical bytes of the records that these sections encode.

@@ -3,7 +3,7 @@ use Rattle.std.specs.{Prelude.not, Prelude.slice_index, List.Contains}
 use Rattle.std.proofs.lemmas.Result.{on_ok_weaker}
 use Rattle.btf_raw.specs.{Kinds.has_item_names, Frames.bytes_of, Frames.kind, Frames.name_word}
 use Rattle.btf_types.specs.Reading.{item_total, text_from, record_of}
-use Rattle.bpf_canon.specs.btf.{CanonicalBtf.record_words, write.NameOffsets.placed}
+use Rattle.bpf_canon.specs.btf.CanonicalBtf.{record_words}
 use Rattle.bpf_canon.proofs.BtfLemmas.Write.RecordNames.{HasNamedItems, named_by_row, words_by_row, item_is, named_total, own_offset}
 use Rattle.bpf_canon.proofs.BtfLemmas.Write.RecordWords.{item_begins, item_room, item_size, items_to, named_item_more, record_pushed, record_tail, rest_words, items_are_tail}
 use Rattle.bpf_canon.proofs.btf.write.sections.push_record.Given.{Over}
@@ -13,15 +13,15 @@ use Rattle.bpf_canon.proofs.btf.write.sections.push_record.Goals as goal
 pub place-name-requires : goal.place-name-requires
 place-name-requires g c =
     let f = c.args.this.now in
-    subst (Contains c.args.names.now.offsets) {x = name_word f} (sym c.word.ensures) (own_offset (Contains c.args.names.now.offsets) f c.requires.noted)
+    subst (Contains (g.N.NamePlaces.names c.args.names.now).offsets) {x = name_word f} (sym c.word.ensures) (own_offset (Contains (g.N.NamePlaces.names c.args.names.now).offsets) f c.requires.noted)
 
 -- the first three words, before what follows them
 front : (g : Over) (c : After-kind-kind g)
-    → c.push_words.new.out.items ++ bytes_of c.args.to (record_tail (placed c.args.names.now) (record_of c.args.names.now.strings c.args.this.now)) ≡ c.args.out.now.items ++ bytes_of c.args.to (record_words (placed c.args.names.now) (record_of c.args.names.now.strings c.args.this.now))
+    → c.push_words.new.out.items ++ bytes_of c.args.to (record_tail (g.N.NamePlaces.place_of c.args.names.now) (record_of (g.N.NamePlaces.names c.args.names.now).strings c.args.this.now)) ≡ c.args.out.now.items ++ bytes_of c.args.to (record_words (g.N.NamePlaces.place_of c.args.names.now) (record_of (g.N.NamePlaces.names c.args.names.now).strings c.args.this.now))
 front g c =
-    let strings = c.args.names.now.strings in
+    let strings = (g.N.NamePlaces.names c.args.names.now).strings in
     let f = c.args.this.now in
-    let place : List ℕ → ℕ = placed c.args.names.now in
+    let place : List ℕ → ℕ = g.N.NamePlaces.place_of c.args.names.now in
     let at : c.place-name.result ≡ place (text_from strings (name_word f)) = c.place-name.ensures ∙ ap (λ (w : ℕ). place (text_from strings w)) c.word.ensures in
     ap (λ (t : List ℕ). t ++ bytes_of c.args.to (record_tail place (record_of strings f))) c.in_ok-push_words.ensures.ok
     ∙ record_pushed c.args.to c.args.out.now.items place strings f c.place-name.result c.canonical_info-info.result c.word-2.result
@@ -51,9 +51,9 @@ room g c k low =
 
 pub returns-then-not-item : goal.returns-then-not-item
 returns-then-not-item g c =
-    let strings = c.args.names.now.strings in
+    let strings = (g.N.NamePlaces.names c.args.names.now).strings in
     let f = c.args.this.now in
-    let place = placed c.args.names.now in
+    let place = g.N.NamePlaces.place_of c.args.names.now in
     let none : has_item_names (kind f) ≡ false = named_by_row c.args.this.now c.kind-kind.result c.layout_of.result c.layout_of.ensures.row c.kind-kind.ensures ∙ nameless_is _ c.if-not-item.true in
     on_ok_weaker c.push_rest.result
     (λ e. e ∙ ap (λ (t : List ℕ). c.push_words.new.out.items ++ bytes_of c.args.to t) (rest_words place strings f c.requires.reads.frame c.requires.reads.spelled none)
@@ -74,7 +74,7 @@ word-requires-in-loop-k g c =
 pub place-name-requires-in-loop-k : goal.place-name-requires-in-loop-k
 place-name-requires-in-loop-k g c =
     let items = named g (goal.at.place-name-requires-in-loop-k g c).Else-not-item in
-    item_is (Contains c.args.names.now.offsets) c.args.this.now c.layout_of.result.item.words c.vlen-vlen.result c.loop-k.k c.word-in-loop-k.result c.requires.noted items (omega arith) c.word-in-loop-k.ensures
+    item_is (Contains (g.N.NamePlaces.names c.args.names.now).offsets) c.args.this.now c.layout_of.result.item.words c.vlen-vlen.result c.loop-k.k c.word-in-loop-k.result c.requires.noted items (omega arith) c.word-in-loop-k.ensures
 
 pub overflow_add-at-in-loop-k : goal.overflow_add-at-in-loop-k
 overflow_add-at-in-loop-k g c = omega (arith, (room g (goal.at.overflow_add-at-in-loop-k g c).Else-not-item c.loop-k.k (omega arith)).1.1)
@@ -95,11 +95,11 @@ word-requires-else-size-eq2 g c =
 pub loop-k-preserved : goal.loop-k-preserved
 loop-k-preserved g c =
     let items = named g (goal.at.loop-k-preserved g c).Else-not-item in
-    let strings = c.args.names.now.strings in
+    let strings = (g.N.NamePlaces.names c.args.names.now).strings in
     let f = c.args.this.now in
     let size = c.layout_of.result.item.words in
     let from = 3 + size * c.loop-k.k in
-    let place = placed c.args.names.now in
+    let place = g.N.NamePlaces.place_of c.args.names.now in
     let name = c.place-name-in-loop-k.result in
     let b : ℕ = slice_index f (from + 1) in
     let d : ℕ = slice_index f (from + 2) in
@@ -122,9 +122,9 @@ loop-k-preserved g c =
 
 pub returns : goal.returns
 returns g c =
-    let strings = c.args.names.now.strings in
+    let strings = (g.N.NamePlaces.names c.args.names.now).strings in
     let f = c.args.this.now in
-    let place = placed c.args.names.now in
+    let place = g.N.NamePlaces.place_of c.args.names.now in
     let items = named g (goal.at.returns g c).Else-not-item in
     let all : c.loop-k.k ≡ item_total f = omega (arith, items.all, named_total f c.requires.reads.frame items.named) in
     c.loop-k.invariant ∙ ap (λ (n : ℕ). c.push_words.new.out.items ++ bytes_of c.args.to (items_to place strings f n)) all

@@ -2,7 +2,7 @@ use Rattle.std.proofs.Common.{ℕ, List, length, sym, subst}
 use Rattle.std.specs.List.{All}
 use Rattle.bpf_canon.specs.btf.{write.NameOffsets.name_offsets, write.NameOffsets.IsBelow}
 use Rattle.bpf_canon.proofs.BtfLemmas.Names.NoteSteps.{names_inside}
-use Rattle.bpf_canon.proofs.btf.write.sections.noted_names.Goals as goal
+use Rattle.bpf_canon.proofs.btf.write.sections.note_names.Goals as goal
 
 pub note_record-requires-clause-inside : goal.note_record-requires-clause-inside
 note_record-requires-clause-inside g c =
