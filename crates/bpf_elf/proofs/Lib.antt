@@ -4,3 +4,4 @@ pub mod SectionLemmas
 pub mod KindLemmas
 pub mod SectionFacts
 pub mod SymbolFacts
+pub mod KeptFacts

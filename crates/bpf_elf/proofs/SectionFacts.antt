@@ -1,11 +1,12 @@
 -- What follows from the rules that hold: sections that have symbols or relocations are in the file.
-use Rattle.std.proofs.Common.{◌≡◌, ℕ, ◌+◌, ◌<◌, ◌≤◌, ◌==◌, true, false, Bool, Option, None, List, length, refl, sym, ◌∙◌, subst, cond}
-use Rattle.std.proofs.lemmas.Bool.{leb-true}
+use Rattle.std.proofs.Common.{◌≡◌, ℕ, ◌+◌, ◌<◌, ◌≤◌, ◌==◌, true, false, Bool, inl, inr, Option, None, List, length, drop, refl, sym, ◌∙◌, subst, cond, arith}
+use Rattle.std.proofs.lemmas.{Bool.leb-true, Bool.cases_lt, List.length-take, List.length-drop}
 use Rattle.bpf_elf.specs.declared.{header.Header.Header, kinds.Kind.Kind}
 use Rattle.bpf_elf.specs.declared.kinds.Kind.TheVariants.{Symbols, Relocations}
+use Rattle.bpf_elf.specs.Header.{FILE_LIMIT}
 use Rattle.bpf_elf.specs.Numbers.{count, type, flags, offset, size}
 use Rattle.bpf_elf.specs.Kinds.{is_kind, kind_of, SHT_SYMTAB, SHT_REL, SHT_NOBITS}
-use Rattle.bpf_elf.specs.Sections.{kind, name, file_size}
+use Rattle.bpf_elf.specs.Sections.{content, kind, name, file_size, section_of}
 use Rattle.bpf_elf.specs.Symbols.{symbols}
 use Rattle.bpf_elf.specs.Headers.{HasSections, HasSymbolSection, HasRows, IsKnown}
 use Rattle.bpf_elf.proofs.RuleLemmas.{first_of_there}
@@ -27,7 +28,7 @@ symbols_type_at : (b : List ℕ) (i : ℕ) → is_kind Symbols (kind b i) ≡ tr
 symbols_type_at b i is =
     symbols_type (type b i) (name b i) (flags b i) (known_kind Symbols (i == 0) (kind_of (type b i) (name b i) (flags b i)) is)
 
-relocations_type_at : (b : List ℕ) (i : ℕ) → is_kind Relocations (kind b i) ≡ true → type b i ≡ SHT_REL
+pub relocations_type_at : (b : List ℕ) (i : ℕ) → is_kind Relocations (kind b i) ≡ true → type b i ≡ SHT_REL
 relocations_type_at b i is =
     relocations_type (type b i) (name b i) (flags b i) (known_kind Relocations (i == 0) (kind_of (type b i) (name b i) (flags b i)) is)
 
@@ -45,3 +46,18 @@ has_symbol_section b h i s same some =
 
 pub has_rows : (b : List ℕ) (h : Header) (i : ℕ) → HasSections b h → i < count b → is_kind Relocations (kind b i) ≡ true → HasRows b h i
 has_rows b h i s lt is = record { header = s.names.header; there = lt; inside = in_file b i SHT_REL (relocations_type_at b i is) refl (s.known i lt) }
+
+-- the first section of a kind is one; section 0 is always there
+pub section_there : (b : List ℕ) (k : Kind) → 0 < count b → section_of b k (count b) < count b
+section_there b k some =
+    elim (cases_lt 0 (section_of b k (count b))) [
+      | inl found ↦ (first_of_there (count b) (section_of b k (count b)) (λ i. is_kind k (kind b i)) refl found).0
+      | inr none ↦ omega (arith, none, some)
+    ]
+
+-- a section begins in the file
+pub begins_near : (b : List ℕ) (i : ℕ) → length b ≤ FILE_LIMIT → IsKnown b i → offset b i ≤ FILE_LIMIT
+begins_near b i short known = omega (arith, leb-true _ _ known.inside, short)
+
+pub content_short : (b : List ℕ) (i : ℕ) → length b ≤ FILE_LIMIT → length (content b i) ≤ FILE_LIMIT
+content_short b i short = omega (arith, length-take (file_size b i) (drop (offset b i) b), length-drop (offset b i) b, short)

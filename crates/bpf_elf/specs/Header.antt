@@ -5,7 +5,7 @@ use Rattle.bpf_elf.specs.declared.fault.ElfCause.TheVariants as cause
 use Rattle.bpf_elf.specs.Rules.{ElfRule, rule}
 use Rattle.bpf_elf.specs.Numbers.{half, word, table, count, names}
 
--- 64 MiB
+-- the most bytes of a file: 64 MiB
 abbrev pub FILE_LIMIT : ℕ
 FILE_LIMIT = 67108864
 

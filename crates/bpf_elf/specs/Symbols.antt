@@ -15,6 +15,7 @@ SHN_ABS = 0xfff1
 abbrev pub SHN_COMMON : ℕ
 SHN_COMMON = 0xfff2
 
+-- the index is that of no section
 abbrev pub is_special : ℕ → Bool
 is_special section = section == 0 || section == SHN_ABS || section == SHN_COMMON
 

@@ -1,14 +1,16 @@
 //! An object file that keeps all rules.
 
-ghost use Rattle.std.specs.Prelude.{◌≡◌, ◌<◌, true, MatchResult};
+ghost use Rattle.std.specs.Prelude.{◌≡◌, ◌<◌, ◌≤◌, ◌^◌, true, length, MatchResult};
 ghost use Rattle.bpf_elf.specs.Rules.{AllHold, IsFirstFault};
-ghost use Rattle.bpf_elf.specs.Numbers.{count, flags_of, link, names, order_of};
+ghost use Rattle.bpf_elf.specs.Header.{FILE_LIMIT};
+ghost use Rattle.bpf_elf.specs.Numbers.{count, flags_of, link, names, order_of, place};
 ghost use Rattle.bpf_elf.specs.Kinds.{is_kind};
+ghost use Rattle.bpf_elf.specs.Names.{is_closed};
 ghost use Rattle.bpf_elf.specs.Sections as sections;
 ghost use Rattle.bpf_elf.specs.Symbols as symbols;
 ghost use Rattle.bpf_elf.specs.Relocations as relocations;
 ghost use Rattle.bpf_elf.specs.ElfRules.{IsElf, elf_rules, all_section_rules, all_symbol_rules};
-ghost use Rattle.bpf_elf.specs.Headers.{IsHeaderOf, HasSections, HasKeptSymbols};
+ghost use Rattle.bpf_elf.specs.Headers.{IsHeaderOf, HasSections, HasSection, HasKeptSymbols};
 ghost use Rattle.bpf_elf.specs.SectionHeaders.{IsSectionHeader, IsSymbol, IsRelocation};
 ghost use Rattle.bpf_elf.specs.declared.kinds.Kind.TheVariants.{Relocations};
 
@@ -18,7 +20,7 @@ use crate::kinds::Kind;
 use crate::names::string_at;
 use crate::relocations::{Relocation, check_relocations, relocation_at, relocation_count};
 use crate::section_checks::{check_sections, check_table, check_targets, section_of};
-use crate::sections::{SectionHeader, content, kind, name, section_header};
+use crate::sections::{SectionHeader, content, kind, name, names_content, section_header};
 use crate::symbols::{
     Symbol, SymbolTable, check_symbols, is_kept, read_symbol_table, symbol_at, symbol_strings,
 };
@@ -117,15 +119,31 @@ impl<'a> Elf<'a> {
 
     /// The number of sections, with section 0, which is none.
     pub fn section_count(&self) -> usize
-        ensures { result ≡ count self.now }
+        ensures value { result ≡ count self.now }
+        ensures small { result < 2 ^ 16 }
+        ensures some { 0 < result }
     {
         self.header.count
+    }
+
+    /// Where the header of a section is, in bytes from the start of the file.
+    pub fn section_place(&self, i: usize) -> u32
+        requires { i < count self.now }
+        ensures { result ≡ place self.now i }
+    {
+        (self.header.table + 64 * i) as u32
     }
 
     /// The header of a section.
     pub fn section(&self, i: usize) -> SectionHeader
         requires { i < count self.now }
-        ensures { IsSectionHeader self.now i result }
+        ensures fields { IsSectionHeader self.now i result }
+        ensures near { result.offset ≤ FILE_LIMIT }
+        ensures named { result.name_offset
+            < length (sections.content self.now (names self.now)) }
+        ensures closed { is_closed (sections.content self.now (names self.now)) ≡ true }
+        ensures target { is_kind Relocations (sections.kind self.now i) ≡ true
+            → result.info < count self.now }
     {
         section_header(self.bytes, self.header, i)
     }
@@ -138,10 +156,21 @@ impl<'a> Elf<'a> {
         name(self.bytes, self.header, i)
     }
 
+    /// The string table with the names of the sections.
+    pub fn section_strings(&self) -> &[u8]
+        ensures value { result.now ≡ sections.content self.now (names self.now) }
+        ensures closed { is_closed result.now ≡ true }
+        ensures short { length result.now ≤ FILE_LIMIT }
+        ensures rules { IsElf self.now }
+    {
+        names_content(self.bytes, self.header)
+    }
+
     /// The bytes of a section in the file: none if it has the type SHT_NOBITS.
     pub fn content(&self, i: usize) -> &[u8]
         requires { i < count self.now }
-        ensures { result.now ≡ sections.content self.now i }
+        ensures value { result.now ≡ sections.content self.now i }
+        ensures short { length result.now ≤ FILE_LIMIT }
     {
         content(self.bytes, self.header, i)
     }
@@ -156,14 +185,16 @@ impl<'a> Elf<'a> {
 
     /// The first section of a kind, or 0 if there is none.
     pub fn section_of(&self, wanted: Kind) -> usize
-        ensures { result ≡ sections.section_of self.now wanted (count self.now) }
+        ensures value { result ≡ sections.section_of self.now wanted (count self.now) }
+        ensures there { result < count self.now }
     {
         section_of(self.bytes, self.header, wanted, self.header.count)
     }
 
     /// The number of symbols, with symbol 0, which is zero.
     pub fn symbol_count(&self) -> usize
-        ensures { result ≡ symbols.symbol_count self.now }
+        ensures value { result ≡ symbols.symbol_count self.now }
+        ensures small { result < 2 ^ 32 }
     {
         self.symbols.count
     }
@@ -171,7 +202,11 @@ impl<'a> Elf<'a> {
     /// A symbol.
     pub fn symbol(&self, j: usize) -> Symbol
         requires { j < symbols.symbol_count self.now }
-        ensures { IsSymbol self.now j result }
+        ensures fields { IsSymbol self.now j result }
+        ensures named { result.name_offset < length (symbols.symbol_strings self.now) }
+        ensures small { result.name_offset ≤ FILE_LIMIT }
+        ensures closed { is_closed (symbols.symbol_strings self.now) ≡ true }
+        ensures section { HasSection self.now result.section }
     {
         symbol_at(self.bytes, self.header, self.symbols, j)
     }
@@ -188,6 +223,15 @@ impl<'a> Elf<'a> {
         )
     }
 
+    /// The string table with the names of the symbols.
+    pub fn symbol_strings(&self) -> &[u8]
+        ensures value { result.now ≡ symbols.symbol_strings self.now }
+        ensures closed { is_closed result.now ≡ true }
+        ensures short { length result.now ≤ FILE_LIMIT }
+    {
+        symbol_strings(self.bytes, self.header, self.symbols)
+    }
+
     /// Whether the canonical file has a symbol: all but the names of source files, and local ones of
     /// sections that are not code or data.
     pub fn is_kept_symbol(&self, j: usize) -> bool
@@ -201,7 +245,8 @@ impl<'a> Elf<'a> {
     pub fn relocation_count(&self, i: usize) -> usize
         requires there { i < count self.now }
         requires kind { is_kind Relocations (sections.kind self.now i) ≡ true }
-        ensures { result ≡ relocations.relocation_count self.now i }
+        ensures value { result ≡ relocations.relocation_count self.now i }
+        ensures small { result < 2 ^ 32 }
     {
         relocation_count(self.bytes, self.header, i)
     }
@@ -211,7 +256,8 @@ impl<'a> Elf<'a> {
         requires there { i < count self.now }
         requires kind { is_kind Relocations (sections.kind self.now i) ≡ true }
         requires row { k < relocations.relocation_count self.now i }
-        ensures { IsRelocation self.now i k result }
+        ensures fields { IsRelocation self.now i k result }
+        ensures there { result.symbol < symbols.symbol_count self.now }
     {
         relocation_at(self.bytes, self.header, i, k)
     }

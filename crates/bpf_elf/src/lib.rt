@@ -26,4 +26,4 @@ pub use kinds::{Kind, is_reserved};
 pub use names::{is_closed, is_section_name, string_at};
 pub use relocations::Relocation;
 pub use sections::SectionHeader;
-pub use symbols::Symbol;
+pub use symbols::{Symbol, is_special};

@@ -1,6 +1,6 @@
 //! The tables of relocations that are kept (System V ABI, "Relocation").
 
-ghost use Rattle.std.specs.Prelude.{◌≡◌, ◌<◌};
+ghost use Rattle.std.specs.Prelude.{◌≡◌, ◌^◌, ◌<◌};
 ghost use Rattle.bpf_elf.specs.Rules.{each, Checks};
 ghost use Rattle.bpf_elf.specs.Numbers.{count};
 ghost use Rattle.bpf_elf.specs.Symbols.{symbols as spec_symbols};
@@ -29,7 +29,8 @@ pub struct Relocation {
 /// How many rows a table has.
 pub(crate) fn relocation_count(bytes: &[u8], header: Header, i: usize) -> usize
     requires { HasRows bytes.now header i }
-    ensures { result ≡ spec.relocation_count bytes.now i }
+    ensures value { result ≡ spec.relocation_count bytes.now i }
+    ensures small { result < 2 ^ 32 }
 {
     section_header(bytes, header, i).size as usize / 16
 }

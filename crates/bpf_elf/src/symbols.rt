@@ -137,8 +137,8 @@ pub(crate) fn symbol_strings(bytes: &[u8], header: Header, table: SymbolTable) -
     content(bytes, header, table.names)
 }
 
-/// Whether a section index is that of no section.
-fn is_special(section: u16) -> bool
+/// Whether a section index is that of no section: SHN_UNDEF, SHN_ABS or SHN_COMMON.
+pub fn is_special(section: u16) -> bool
     ensures { result ≡ spec.is_special section }
 {
     section == SHN_UNDEF || section == SHN_ABS || section == SHN_COMMON
