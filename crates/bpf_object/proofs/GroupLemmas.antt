@@ -1,12 +1,12 @@
 -- The groups of a part that are left to be checked.
-use Rattle.std.proofs.Common.{◌≡◌, ℕ, zero, suc, ◌+◌, ◌<◌, ◌≤◌, true, false, Some, List, [], refl, ◌∙◌, arith}
+use Rattle.std.proofs.Common.{◌≡◌, ℕ, zero, suc, ◌+◌, ◌<◌, ◌≤◌, true, false, List, [], refl, ◌∙◌, arith}
 use Rattle.std.specs.Prelude.{nat_lt, if◌then◌else◌}
 use Rattle.std.specs.List.{All}
 use Rattle.std.proofs.lemmas.Bool.Decides.{nat_tests}
 use Rattle.std.proofs.lemmas.List.Elements.{All-nil, All-cons}
-use Rattle.bpf_elf.specs.Rules.{Broken, first_broken, AllHold}
-use Rattle.bpf_elf.proofs.RuleLemmas.{stays_first, after_holding}
-use Rattle.bpf_object.specs.declared.{extension.Part.Part, fault.ObjectCause.ObjectCause, source.Source.Source}
+use Rattle.bpf_elf.specs.Rules.{first_broken, AllHold}
+use Rattle.bpf_elf.proofs.RuleLemmas.{after_holding}
+use Rattle.bpf_object.specs.declared.{extension.Part.Part, source.Source.Source}
 use Rattle.bpf_object.specs.Extension.{Section, part_end, next_group, groups_from, group_rules, groups_rules}
 use Rattle.bpf_object.specs.Sources.{section, HasGroup}
 
@@ -20,11 +20,6 @@ pub record Left (x : Source) (p : Part) (gs : List ℕ) (g : ℕ) : Type 0 where
 -- the groups after a group
 unfoldable pub later : (s : Section) (p : Part) (g n : ℕ) → List ℕ
 later s p g n = if nat_lt (next_group s p g) (part_end s p) then groups_from s p n (next_group s p g) else []
-
-pub left_fault : (x : Source) (p : Part) (gs : List ℕ) (g : ℕ) (f : Broken ObjectCause) → Left x p gs g → first_broken (group_rules (section x) p g) ≡ Some f
-    → first_broken (groups_rules (section x) p gs) ≡ Some f
-unfolding later
-left_fault x p gs g f l h = l.rest ∙ stays_first (group_rules (section x) p g) (groups_rules (section x) p (later (section x) p g l.n)) f h
 
 passes : (x : Source) (p : Part) (gs : List ℕ) (g : ℕ) (l : Left x p gs g) → AllHold (group_rules (section x) p g)
     → first_broken (groups_rules (section x) p gs) ≡ first_broken (groups_rules (section x) p (later (section x) p g l.n))

@@ -2,12 +2,16 @@
 use Rattle.std.specs.Prelude.{◌≡◌, ℕ, ◌+◌, ◌≤◌, true, length}
 use Rattle.std.specs.List.{All}
 use Rattle.bpf_elf.specs.Names.{is_closed, is_section_name}
-use Rattle.bpf_object.specs.declared.source.Source.{Source}
+use Rattle.bpf_object.specs.declared.{source.Source.Source, types.TypesSource.TypesSource}
 use Rattle.bpf_object.specs.declared.extension.Part.{Part, TheVariants.Functions, TheVariants.Lines, TheVariants.Relocations}
+use Rattle.bpf_object.specs.Types.{TypesSection}
 use Rattle.bpf_object.specs.Extension.{Section, part_end, next_group, group_name, groups}
 
 abbrev pub section : Source → Section
 section x = record { order = x.order; start = x.start; bytes = x.bytes.now; strings = x.strings.now }
+
+abbrev pub types_section : TypesSource → TypesSection
+types_section x = record { order = x.order; place = x.place; start = x.start; bytes = x.bytes.now }
 
 -- the strings are a string table, and the section is in a file of at most 64 MiB
 pub record IsSource (x : Source) : Type 0 where

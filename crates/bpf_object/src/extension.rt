@@ -7,6 +7,7 @@ ghost use Rattle.bpf_object.specs.declared.extension.Part.TheVariants.{Functions
 ghost use Rattle.bpf_object.specs.Faults.{Checks, IsFirstFault};
 ghost use Rattle.bpf_object.specs.Extension.{head_rules, form_rules, part_rules, groups};
 ghost use Rattle.bpf_object.specs.Lines.{pairs_rules, accesses_rules, extension_rules};
+ghost use Rattle.bpf_object.specs.NotedStrings.{IsChecked};
 ghost use Rattle.bpf_object.specs.Sources.{
   section,
   IsSource,
@@ -113,6 +114,19 @@ fn check_records(x: Source<'_>) -> Result<(), ObjectFault>
     check_accesses(x)
 }
 
+/// Checks all rules on a section.
+pub(crate) fn check_source(x: Source<'_>) -> Result<(), ObjectFault>
+    requires { IsSource x }
+    ensures { MatchResult result
+        (λ _. AllHold (extension_rules (section x.entry)) × IsChecked x.entry)
+        (IsFirstFault (extension_rules (section x.entry))) }
+{
+    check_header(x)?;
+    check_parts(x)?;
+    check_records(x)?;
+    Ok(())
+}
+
 /// Checks the section .BTF.ext of an object file (Linux Documentation/bpf/btf.rst, "4.2 .BTF.ext
 /// section").
 ///
@@ -154,13 +168,10 @@ pub fn check_extension(
         (record { order = order; start = start; bytes = bytes.now; strings = strings.now }))
         result }
 {
-    let x = Source {
+    check_source(Source {
         order,
         start,
         bytes,
         strings,
-    };
-    check_header(x)?;
-    check_parts(x)?;
-    check_records(x)
+    })
 }

@@ -1,17 +1,49 @@
 //! What is wrong with an object file.
 
-ghost use Rattle.std.specs.Prelude.{[], ◌∷◌};
+ghost use Rattle.std.specs.Prelude.{◌≡◌, [], ◌∷◌};
 ghost use Rattle.bpf_elf.specs.Rules.{rule};
+ghost use Rattle.bpf_object.specs.declared.fault.ObjectCause.TheVariants as cause;
+ghost use Rattle.bpf_object.specs.declared.fault.ObjectError.TheVariants.{Fault, Memory};
 ghost use Rattle.bpf_object.specs.Faults.{Checks};
 
+use bpf_elf::{ElfCause, ElfFault};
+use btf_raw::BtfCause;
+use std::alloc::AllocError;
 use thiserror::Error;
 
 /// A rule that an object file breaks. Offsets are in bytes from the start of the file.
 #[derive(Clone, Copy, Debug, PartialEq, Eq, Error)]
 pub enum ObjectCause {
+    /// A rule on the ELF file. Reported as [`ElfFault`](bpf_elf::ElfFault) says.
+    #[error("{0}")]
+    Elf(ElfCause),
+    /// Reported at sh_size of .BTF.
+    #[error(".BTF has more than 15,728,640 bytes")]
+    TypesTooLarge,
+    /// .BTF isn't valid BTF, with this cause. Reported where the fault is.
+    #[error("Types({0})")]
+    Types(BtfCause),
+    /// Reported at .BTF.
+    #[error("the byte order of .BTF isn't that of the file")]
+    TypesOrder,
+    /// Reported at type_off.
+    #[error("type_off of .BTF isn't 0")]
+    TypesLayout,
+    /// Reported at name_off.
+    #[error("a name_off of .BTF that isn't 0 leads to an empty string")]
+    TypesName,
+    /// Reported at name_off.
+    #[error("a DATASEC has a reserved name")]
+    TypesSection,
+    /// Reported at info.
+    #[error("the kind_flag of a struct or union without bit-fields isn't 0")]
+    TypesFlag,
+    /// Reported at sh_name of .BTF.ext.
+    #[error("there is a .BTF.ext, and no .BTF")]
+    ExtensionWithoutTypes,
     /// Reported at the section.
     #[error(".BTF.ext has fewer than 32 bytes")]
-    ExtensionCut = 1,
+    ExtensionCut,
     /// Reported at the section.
     #[error(".BTF.ext doesn't begin with its magic number in the byte order of the file")]
     ExtensionMagic,
@@ -39,6 +71,9 @@ pub enum ObjectCause {
     /// Reported at the group.
     #[error("functions and source lines don't belong to one another")]
     ExtensionLines,
+    /// Reported at 0.
+    #[error("the canonical file, or its .BTF, is larger than a file may be")]
+    ResultTooLarge,
 }
 
 /// The first rule that a file breaks, and where.
@@ -49,6 +84,44 @@ pub struct ObjectFault {
     pub pos: u64,
     /// The rule that is broken there.
     pub cause: ObjectCause,
+}
+
+/// Why the check of an object file failed.
+#[derive(Clone, Debug, Drop, PartialEq, Eq, Error)]
+pub enum ObjectError {
+    /// The file breaks a rule. This is the first one that it breaks.
+    #[error("{0}")]
+    Fault(ObjectFault),
+    /// Memory could not be allocated.
+    #[error("Memory")]
+    Memory,
+}
+
+impl From<AllocError> for ObjectError {
+    ghost from_gives = { λ _ e. e ≡ Memory };
+
+    fn from(_e: AllocError) -> ObjectError {
+        ObjectError::Memory
+    }
+}
+
+impl From<ObjectFault> for ObjectError {
+    ghost from_gives = { λ f e. e ≡ Fault f };
+
+    fn from(fault: ObjectFault) -> ObjectError {
+        ObjectError::Fault(fault)
+    }
+}
+
+impl From<ElfFault> for ObjectError {
+    ghost from_gives = { λ f e. e ≡ Fault (record { pos = f.pos; cause = cause.Elf f.cause }) };
+
+    fn from(fault: ElfFault) -> ObjectError {
+        ObjectError::Fault(ObjectFault {
+            pos: fault.pos,
+            cause: ObjectCause::Elf(fault.cause),
+        })
+    }
 }
 
 /// Reports a rule that doesn't hold.

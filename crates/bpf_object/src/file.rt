@@ -34,7 +34,11 @@ pub struct WrittenSection<'a> {
 }
 
 /// Appends the eight bytes of a 64-bit number.
-fn push64<A: Allocator>(out: &mut Vec<u8, A>, order: Order, value: u64) -> Result<(), AllocError>
+pub(crate) fn push64<A: Allocator>(
+    out: &mut Vec<u8, A>,
+    order: Order,
+    value: u64,
+) -> Result<(), AllocError>
     ensures { OnOk result (out.new.items ≡ out.old.items ++ spec.word64 order value) }
 {
     let word = match order {
@@ -147,7 +151,7 @@ fn push_contents<A: Allocator>(
 }
 
 /// The length of a content of n bytes with its padding.
-fn padded_len(n: usize) -> u64
+pub(crate) fn padded_len(n: usize) -> u64
     requires { n < 2 ^ 63 }
     ensures value { result ≡ n + length (spec.padding n) }
     ensures small { result < 2 ^ 63 + 8 }

@@ -1,23 +1,56 @@
-//! Parts of canonical object files: the rules on the section .BTF.ext (Linux
-//! Documentation/bpf/btf.rst, "4.2 .BTF.ext section"), and the bytes of a file of given sections
-//! (System V ABI, "ELF Header" and "Sections"). What is between the two isn't written yet.
+//! Canonical object files (docs/OBJECTS.md): what a BPF object file holds, written in one way (System
+//! V ABI, "ELF Header" and "Sections"; Linux Documentation/bpf/btf.rst, sections 2 and 4).
 //!
-//! [`check_extension`] checks the section .BTF.ext by the rules of `specs/Extension.antt` and
-//! `specs/Lines.antt`, in their sequence.
+//! [`canon_object`] writes the canonical file, [`same_objects`] compares two files by theirs, and
+//! [`object_key`] is its SHA-256. [`laws`] says that canonical files are valid, and tell objects
+//! apart. [`check_extension`] and [`write_file`] are parts of the calls.
+//!
+//! Definitions first: `specs/Objects.antt` says what an object is, `Kept` and `Denotes` which one a
+//! file denotes, `Canonical` its canonical file, and `ObjectFaults` the fault of a file that has
+//! none. Then the code, from `canon` on:
+//!
+//! - `types`, with `type_checks`, checks .BTF.
+//! - `extension` checks .BTF.ext: its parts in `group_checks`, and what they say of one another and
+//!   of the strings in `line_checks` and `access_checks`. `source` and `cursors` read it.
+//! - `extension_file` writes .BTF.ext anew, by `groups` and `extension_writer`.
+//! - `object_writer` writes the file: its strings are in `file_strings` and `file_places`, its symbols
+//!   and tables of relocations in `symbol_rows` and `relocation_rows`, with the numbers of
+//!   `numbering`. `file` puts the sections together.
 
 #![tactic(auto)]
 
 mod access_checks;
+mod canon;
 mod cursors;
 mod extension;
+mod extension_file;
+mod extension_strings;
+mod extension_writer;
 mod fault;
 mod file;
+mod file_places;
+mod file_strings;
 mod group_checks;
+mod groups;
+mod key;
+pub mod laws;
 mod line_checks;
+mod numbering;
+mod object_writer;
+mod relocation_rows;
+mod same;
+mod section_writer;
 mod source;
+mod symbol_rows;
 #[cfg(test)]
 mod tests;
+mod type_checks;
+mod types;
+mod types_writer;
 
+pub use canon::canon_object;
 pub use extension::{Part, check_extension};
-pub use fault::{ObjectCause, ObjectFault};
+pub use fault::{ObjectCause, ObjectError, ObjectFault};
 pub use file::{WrittenSection, write_file};
+pub use key::object_key;
+pub use same::{SameError, same_objects};

@@ -2,7 +2,9 @@
 
 ghost use Rattle.std.specs.Prelude.{◌≡◌, ◌+◌, ◌*◌, ◌^◌, ◌<◌, ◌≤◌, length};
 ghost use Rattle.bpf_object.specs.Extension as spec;
-ghost use Rattle.bpf_object.specs.Sources.{section};
+ghost use Rattle.bpf_object.specs.declared.extension.Part.TheVariants.{Relocations};
+ghost use Rattle.bpf_object.specs.Groups.{access_off as spec_access};
+ghost use Rattle.bpf_object.specs.Sources.{section, HasGroup};
 
 use crate::extension::Part;
 use bpf_words::{Order, get32};
@@ -98,6 +100,16 @@ pub(crate) fn group_count(x: Source<'_>, group: usize) -> usize
     ensures small { result < 2 ^ 32 }
 {
     word(x, group + 4)
+}
+
+/// Where the access string of a CO-RE relocation is in the strings.
+pub(crate) fn access_off(x: Source<'_>, group: usize, k: usize) -> usize
+    requires group { HasGroup x Relocations group }
+    requires there { k < spec.group_count (section x) group }
+    ensures value { result ≡ spec_access (section x.entry) group k }
+    ensures small { result < 2 ^ 32 }
+{
+    word(x, group + 8 + records_len(Part::Relocations, k) + 8)
 }
 
 /// Where the group after a group begins.

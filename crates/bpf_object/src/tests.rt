@@ -1,9 +1,15 @@
-//! A section by the layout of btf.rst, and what is reported of it with a byte changed; and a file by
-//! the layout of the System V ABI.
+//! Sections by the layouts of btf.rst, and what is reported of them with a byte changed; and a file
+//! by the layout of the System V ABI.
 
-use crate::{ObjectCause as Cause, ObjectFault, WrittenSection, check_extension, write_file};
+mod canonical;
+
+use crate::types::check_types;
+use crate::{
+    ObjectCause as Cause, ObjectError, ObjectFault, WrittenSection, check_extension, write_file,
+};
 use bpf_elf::{Elf, ElfCause, ElfFault};
 use bpf_words::Order;
+use btf_raw::BtfCause;
 
 /// One function with one line and one CO-RE relocation, all of .text.
 #[rattlefmt::skip]
@@ -29,6 +35,36 @@ const REFUSED: &[Refused] = &[
     Refused("a function without a line", 64, 8, 0x64, Cause::ExtensionLines),
     Refused("an access string past the strings", 100, 0x0b, 0xa4, Cause::ExtensionString),
 ];
+
+/// One INT.
+const TYPES: [u8; 45] = *b"\x9f\xeb\x01\0\x18\0\0\0\0\0\0\0\x10\0\0\0\x10\0\0\0\x05\0\0\0\
+    \x01\0\0\0\0\0\0\x01\x04\0\0\0\x20\0\0\x01\0int\0";
+
+#[rattlefmt::skip]
+const REFUSED_TYPES: &[Refused] = &[
+    Refused("version 2", 2, 2, 0x42, Cause::Types(BtfCause::Version)),
+    Refused("a name_off of the last NUL", 24, 4, 0x58, Cause::TypesName),
+];
+
+#[test]
+fn types_are_checked_by_themselves_and_as_those_of_a_file(rt: HostRuntime) {
+    let passed = check_types(rt.alloc(), Order::Little, 0, START, &TYPES).map(|file| file.count());
+    assert_eq!(rt; passed, Ok(1));
+    for Refused(name, changed, byte, pos, cause) in REFUSED_TYPES {
+        let mut bytes = TYPES;
+        if let Some(old) = bytes.get_mut(*changed) {
+            *old = *byte;
+        }
+        let found = check_types(rt.alloc(), Order::Little, 0, START, &bytes).map(
+            |file| file.count(),
+        );
+        let wanted = Err(ObjectError::Fault(ObjectFault {
+            pos: *pos,
+            cause: *cause,
+        }));
+        assert_eq!(rt; found, wanted, "{name}");
+    }
+}
 
 #[test]
 fn the_first_fault_is_reported_where_it_is(rt: HostRuntime) {

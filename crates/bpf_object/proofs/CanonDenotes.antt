@@ -1,0 +1,147 @@
+-- The canonical file of an object that a file denotes denotes this object.
+use Rattle.std.proofs.Common.{◌≡◌, ℕ, ◌+◌, ◌==◌, ◌&&◌, Bool, true, false, not, List, [], ◌∷◌, Option, Some, None, length, if◌then◌else◌, inl, inr, refl, sym, ap, subst, ◌∙◌, arith}
+use Rattle.std.specs.Prelude.{nat_lt, nat_le}
+use Rattle.std.proofs.lemmas.Bool.{and_parts, cases_Bool, ltb-true, leb-true, eqb-true, ne_eqb, not-false}
+use Rattle.bpf_words.specs.{Words.IsBytes}
+use Rattle.bpf_elf.specs.{Header.FILE_LIMIT, Header.SHN_LORESERVE, Numbers.offset, Sections.content, Rules.AllHold}
+use Rattle.bpf_object.specs.Objects.{ObjectTypes, Object}
+use Rattle.bpf_object.specs.Canonical.{strings_of, place_of, types_strings, has_extension, extension_bytes, written_sections, canonical}
+use Rattle.bpf_object.specs.Denotes.{extension_at, extension_of, rules_of_extension, object_types, HoldsTypes, TypesAre, types_fit, is_small, Denotes}
+use Rattle.bpf_object.specs.Extension.{Section}
+use Rattle.bpf_object.specs.Groups.{function_groups, relocation_groups}
+use Rattle.bpf_object.specs.Lines.{extension_rules}
+use Rattle.bpf_object.proofs.ReadBackTests.{equal_test}
+use Rattle.bpf_object.proofs.CanonGood.{GoodObject, IsSmall}
+use Rattle.bpf_object.proofs.CanonReads.{order_back, object_back}
+use Rattle.bpf_object.proofs.CanonSymbols.{canonical_is_elf}
+use Rattle.bpf_object.proofs.CanonAcceptedSymbols.{object_is_good}
+use Rattle.bpf_object.proofs.CanonTypes.{types_back, no_types_back, extension_back, no_extension_back, no_extension_of_back}
+use Rattle.bpf_object.proofs.CanonBtfKept.{AreSmallTypes, small_types, canonical_words, strings_short, canonical_records, canonical_types_kept}
+use Rattle.bpf_object.proofs.CanonExtensionKept.{SaysExtension, written_section, extension_said}
+use Rattle.bpf_object.proofs.CanonHeld.{AreGoodTypes, types_are_good, no_functions, no_relocations}
+use Rattle.bpf_object.proofs.DenotesOne.{denotes_one}
+
+-- ---- what is_small says
+
+pub record SmallParts (x : Object) : Type 0 where
+  pub types : types_fit x ≡ true
+  pub file : IsSmall x
+
+pub small_parts : (x : Object) → is_small x ≡ true → SmallParts x
+small_parts x small =
+    let parts = and_parts (types_fit x) (nat_lt (length (written_sections x) + 1) SHN_LORESERVE && nat_le (length (canonical x)) FILE_LIMIT) small in
+    let sizes = and_parts (nat_lt (length (written_sections x) + 1) SHN_LORESERVE) (nat_le (length (canonical x)) FILE_LIMIT) parts.1 in
+    record { types = parts.0; file = record { few = ltb-true _ _ sizes.0; short = leb-true _ _ sizes.1 } }
+
+-- ---- .BTF.ext
+
+-- what the .BTF.ext of a file says, with these strings
+record SaysOf (c strings : List ℕ) (t : ObjectTypes) : Type 0 where
+  rules : AllHold (rules_of_extension c strings)
+  functions : function_groups (extension_of c strings) ≡ t.functions
+  relocations : relocation_groups (extension_of c strings) ≡ t.relocations
+
+same_section : (x y : Section) → x.order ≡ y.order → x.start ≡ y.start → x.bytes ≡ y.bytes → x.strings ≡ y.strings → x ≡ y
+same_section x y a b c d = λ k. record { order = a k; start = b k; bytes = c k; strings = d k }
+
+no_elements : {A : Type 0} (xs : List A) → length xs ≡ 0 → [] ≡ xs
+no_elements [] none = refl
+no_elements (x ∷ xs) none = absurd (omega (arith, none))
+
+both_none : (a b : ℕ) → not (a == 0 && b == 0) ≡ false → (a ≡ 0) × (b ≡ 0)
+both_none a b h =
+    let both = and_parts (a == 0) (b == 0) (not-false (a == 0 && b == 0) h) in
+    (eqb-true a 0 both.0, eqb-true b 0 both.1)
+
+module _ (x : Object) (good : GoodObject x) (small : IsSmall x) (t : ObjectTypes) (is : x.types ≡ Some t) (fit : AreSmallTypes x.order t) (types : AreGoodTypes t) where
+  abbrev strings : List ℕ
+  strings = strings_of (types_strings t)
+
+  -- there is one
+  with_extension : has_extension t ≡ true → SaysOf (canonical x) strings t
+  with_extension has =
+      let c = canonical x in
+      let here = extension_back x good small t is has in
+      let bytes = extension_bytes x.order (place_of (types_strings t)) t in
+      let some = here.some in
+      let there : (extension_at c == 0) ≡ false = ne_eqb (extension_at c) 0 (λ e. omega (arith, e, some)) in
+      let whole : (extension_of c strings).bytes ≡ bytes = ap (λ (y : Bool). if y then [] else content c (extension_at c)) there ∙ here.bytes_are in
+      let start = offset c (extension_at c) in
+      let short = strings_short x good small t is fit types.records in
+      let said = extension_said x.order start t types.extension short (fit.extension has) has in
+      let same : written_section x.order start t types.extension short (fit.extension has) ≡ extension_of c strings =
+      same_section (record { order = x.order; start = start; bytes = bytes; strings = strings }) (extension_of c strings) (sym (order_back x good small)) refl (sym whole) refl in
+      let says : SaysExtension (extension_of c strings) t = subst (λ (s : Section). SaysExtension s t) same said in
+      record {
+        rules = subst (λ (y : Bool). AllHold (if y then [] else extension_rules (extension_of c strings))) (sym there) says.rules;
+        functions = says.functions;
+        relocations = says.relocations;
+      }
+
+  -- there is none
+  without_extension : has_extension t ≡ false → SaysOf (canonical x) strings t
+  without_extension none =
+      let c = canonical x in
+      let at : (extension_at c == 0) ≡ true = equal_test (extension_at c) 0 (no_extension_of_back x good small t is none) in
+      let empty : (extension_of c strings).bytes ≡ [] = ap (λ (y : Bool). if y then [] else content c (extension_at c)) at in
+      let lengths = both_none (length t.functions) (length t.relocations) none in
+      record {
+        rules = subst (λ (y : Bool). AllHold (if y then [] else extension_rules (extension_of c strings))) (sym at) refl;
+        functions = no_functions (extension_of c strings) empty ∙ no_elements t.functions lengths.0;
+        relocations = no_relocations (extension_of c strings) empty ∙ no_elements t.relocations lengths.1;
+      }
+
+  canonical_extension : SaysOf (canonical x) strings t
+  canonical_extension = elim (cases_Bool (has_extension t)) [ inl has ↦ with_extension has | inr none ↦ without_extension none ]
+
+  -- ---- the types
+
+  same_types : (u v : ObjectTypes) → u.records ≡ v.records → u.functions ≡ v.functions → u.relocations ≡ v.relocations → u ≡ v
+  same_types u v a b c = λ k. record { records = a k; functions = b k; relocations = c k }
+
+  pub canonical_holds : HoldsTypes (canonical x) t
+  canonical_holds =
+      let here = types_back x good small t is in
+      let says = canonical_extension in
+      record {
+        sections = canonical_words x.order t;
+        there = here.some;
+        types = canonical_types_kept x good small t is fit types.records types.free;
+        extension = says.rules;
+        whole =
+            same_types t (object_types (canonical_words x.order t) (extension_of (canonical x) strings)) (sym (canonical_records x good small t is fit types.records))
+            (sym says.functions) (sym says.relocations);
+      }
+
+no_types_are : (x : Object) → GoodObject x → IsSmall x → x.types ≡ None → TypesAre (canonical x) None
+no_types_are x good small is =
+    let none : (extension_at (canonical x) == 0) ≡ true = equal_test (extension_at (canonical x)) 0 (no_extension_back x good small is) in
+    (no_types_back x good small is, rw none refl)
+
+-- the types of the canonical file, if those of the file are these
+types_are : (b : List ℕ) (x : Object) → IsBytes b → GoodObject x → SmallParts x → (o : Option ObjectTypes) → x.types ≡ o → TypesAre b o → TypesAre (canonical x) o
+types_are b x bytes good small None is held = no_types_are x good small.file is
+types_are b x bytes good small (Some t) is held = canonical_holds x good small.file t is (small_types x t is small.types) (types_are_good b t bytes held)
+
+pub denoted_good : (b : List ℕ) (x : Object) → IsBytes b → Denotes b x → GoodObject x
+denoted_good b x bytes d = subst GoodObject (sym d.whole) (object_is_good b bytes d.elf x.types)
+
+pub canonical_denotes : (b : List ℕ) (x : Object) → IsBytes b → Denotes b x → Denotes (canonical x) x
+canonical_denotes b x bytes d =
+    let good = denoted_good b x bytes d in
+    let small = small_parts x d.small in
+    record {
+      elf = canonical_is_elf x good small.file;
+      types = types_are b x bytes good small x.types refl d.types;
+      whole = sym (object_back x good small.file);
+      small = d.small;
+    }
+
+-- a canonical file is its own canonical file
+pub canonical_own : (b : List ℕ) (x y : Object) → IsBytes b → Denotes b x → Denotes (canonical x) y → canonical y ≡ canonical x
+canonical_own b x y bytes d e = ap canonical (denotes_one (canonical x) y x e (canonical_denotes b x bytes d))
+
+-- objects with the same canonical file are equal
+pub canonical_apart : (a b : List ℕ) (x y : Object) → IsBytes a → IsBytes b → Denotes a x → Denotes b y → canonical x ≡ canonical y → x ≡ y
+canonical_apart a b x y left right d e same =
+    denotes_one (canonical y) x y (subst (λ (c : List ℕ). Denotes c x) same (canonical_denotes a x left d)) (canonical_denotes b y right e)

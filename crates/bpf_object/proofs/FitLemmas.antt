@@ -1,0 +1,134 @@
+-- Whether .BTF and .BTF.ext of an object fit, from those that are written.
+use Rattle.std.proofs.Common.{◌≡◌, ℕ, ◌<◌, ◌≤◌, ◌==◌, ◌&&◌, Bool, true, false, not, Some, None, List, [], ◌∷◌, ◌++◌, length, refl, sym, ap, ◌∙◌, subst, length-append, arith}
+use Rattle.std.specs.Prelude.{nat_le}
+use Rattle.std.specs.List.{All, Contains, flat_map}
+use Rattle.std.proofs.lemmas.Bool.Decides.{nat_tests}
+use Rattle.std.proofs.lemmas.List.{length-map}
+use Rattle.std.proofs.lemmas.List.Elements.{All-nil, All-cons}
+use Rattle.std.specs.declared.vec.Vec.{Vec}
+use Rattle.bpf_elf.specs.Header.{FILE_LIMIT}
+use Rattle.btf_raw.specs.Header.{header}
+use Rattle.btf_types.specs.{Sections.SectionWords, Sections.records_in, tables.TableInvariant.IsTable}
+use Rattle.bpf_canon.specs.btf.strings.{NamesByPlace.NamesByPlace, NamesByPlace.placed_texts, DistinctNames.distinct_table}
+use Rattle.bpf_canon.specs.btf.write.NameOffsets.{all_offsets}
+use Rattle.bpf_canon.proofs.BtfLemmas.CanonicalSpells.{All-front, All-back}
+use Rattle.bpf_canon.proofs.BtfLemmas.Write.SectionFiles.{each_noted}
+use Rattle.bpf_object.specs.declared.{extension.Part.Part, source.Source.Source}
+use Rattle.bpf_object.specs.declared.extension.Part.TheVariants.{Functions, Relocations}
+use Rattle.bpf_object.specs.Canonical.{types_bytes, btf_bytes, extension_bytes, place_of, types_strings, has_extension}
+use Rattle.bpf_object.specs.Denotes.{object_types, both_fit}
+use Rattle.bpf_object.specs.Extension.{Section, groups}
+use Rattle.bpf_object.specs.Groups.{function_group, relocation_group}
+use Rattle.bpf_object.specs.Objects.{ObjectTypes}
+use Rattle.bpf_object.specs.NotedStrings.{HasStrings, placed}
+use Rattle.bpf_object.specs.Sources.{section}
+use Rattle.bpf_object.specs.WrittenGroups.{group_offsets, groups_offsets, written_extension}
+use Rattle.bpf_object.specs.WrittenTypes.{both_offsets, both_names, written_btf, AreWritten}
+use Rattle.bpf_object.proofs.PlaceLemmas.{placed_is, btf_is}
+use Rattle.bpf_object.proofs.WrittenExtension.{extension_is}
+
+-- ---- the strings of groups are among the noted ones
+
+all_in : {A : Type 0} (P : ℕ → Type 0) (f : A → List ℕ) (xs : List A) → All P (flat_map f xs) → All (λ x. All P (f x)) xs
+all_in P f [] each = All-nil (λ x. All P (f x))
+all_in P f (x ∷ xs) each =
+    All-cons (λ x. All P (f x)) x xs (All-front P (f x) (flat_map f xs) each) (all_in P f xs (All-back P (f x) (flat_map f xs) each))
+
+module _ (s : SectionWords) (x : Source) (names : NamesByPlace) (same : x.strings.now ≡ s.strings) (are : names ≡ both_names s (section x)) where
+  each_there : All (Contains names.offsets) (both_offsets s (section x))
+  each_there =
+      subst (λ (n : NamesByPlace). All (Contains n.offsets) (both_offsets s (section x))) (sym are) (each_noted (both_offsets s (section x)))
+
+  pub names_there : All (Contains names.offsets) (all_offsets s.frames)
+  names_there = All-front (Contains names.offsets) (all_offsets s.frames) _ each_there
+
+  pub strings_are : names.strings ≡ x.strings.now
+  strings_are = ap (λ (n : NamesByPlace). n.strings) are ∙ sym same
+
+  have_strings : (p : Part) (gs : List ℕ) → All (Contains names.offsets) (groups_offsets (section x) p gs) → All (HasStrings names x p) gs
+  have_strings p gs each k d lt = record { strings = strings_are; noted = all_in (Contains names.offsets) (group_offsets (section x) p) gs each k d lt }
+
+  pub function_strings_there : All (HasStrings names x Functions) (groups (section x) Functions)
+  function_strings_there =
+      have_strings Functions (groups (section x) Functions)
+      (All-front (Contains names.offsets) (groups_offsets (section x) Functions (groups (section x) Functions)) _
+      (All-back (Contains names.offsets) (all_offsets s.frames) _ each_there))
+
+  pub relocation_strings_there : All (HasStrings names x Relocations) (groups (section x) Relocations)
+  relocation_strings_there =
+      have_strings Relocations (groups (section x) Relocations)
+      (All-back (Contains names.offsets) (groups_offsets (section x) Functions (groups (section x) Functions)) _
+      (All-back (Contains names.offsets) (all_offsets s.frames) _ each_there))
+
+-- ---- what fits
+
+first_too_long : (a limit : ℕ) (q : Bool) → limit < a → (nat_le a limit && q) ≡ false
+first_too_long a limit q lt =
+    let no : nat_le a limit ≡ false = grind (arith, nat_tests) in
+    rw no refl
+
+and_false : (p : Bool) → (p && false) ≡ false
+and_false true = refl
+and_false false = refl
+
+at_most : (a limit : ℕ) → a ≤ limit → nat_le a limit ≡ true
+at_most a limit le = grind (arith, nat_tests)
+
+more_than : (a limit : ℕ) → limit < a → nat_le a limit ≡ false
+more_than a limit lt = grind (arith, nat_tests)
+
+module _ (s : SectionWords) (x : Section) (same : s.strings ≡ x.strings) (table : IsTable s) (names : NamesByPlace) (are : names ≡ both_names s x) where
+  abbrev t : ObjectTypes
+  t = object_types s x
+
+  abbrev extension : List ℕ
+  extension = extension_bytes x.order (place_of (types_strings t)) t
+
+  -- .BTF
+  same_btf : written_btf x.order s names ≡ btf_bytes x.order t
+  same_btf = ap (written_btf x.order s) are ∙ btf_is s x same table x.order
+
+  pub no_btf : 15728640 < length (written_btf x.order s names) → both_fit x.order t ≡ false
+  no_btf lt = first_too_long (length (btf_bytes x.order t)) 15728640 _ (subst (λ (b : List ℕ). 15728640 < length b) same_btf lt)
+
+  pub no_table : 15728640 < length (distinct_table (placed_texts names)) → both_fit x.order t ≡ false
+  no_table lt =
+      let types = types_bytes x.order (placed names) (records_in s) in
+      let strings = distinct_table (placed_texts names) in
+      let whole = length-append (header x.order 24 0 (length types) (length types) (length strings) ++ types) strings in
+      no_btf (omega (arith, lt, whole))
+
+  fits_btf : length (written_btf x.order s names) ≤ 15728640 → nat_le (length (btf_bytes x.order t)) 15728640 ≡ true
+  fits_btf le = at_most (length (btf_bytes x.order t)) 15728640 (subst (λ (b : List ℕ). length b ≤ 15728640) same_btf le)
+
+  -- .BTF.ext of these groups
+  module _ (fs rs : List ℕ) (functions : fs ≡ groups x Functions) (relocations : rs ≡ groups x Relocations) where
+    has_is : has_extension t ≡ not (length fs == 0 && length rs == 0)
+    has_is = rw (functions, relocations, length-map (groups x Functions) (function_group x), length-map (groups x Relocations) (relocation_group x)) refl
+
+    same_extension : written_extension x (placed names) fs rs ≡ extension
+    same_extension =
+        rw (functions, relocations, are) (extension_is s x (placed (both_names s x)))
+        ∙ ap (λ (p : List ℕ → ℕ). extension_bytes x.order p t) (placed_is s x same table)
+
+    pub no_extension : not (length fs == 0 && length rs == 0) ≡ true → FILE_LIMIT < length (written_extension x (placed names) fs rs)
+        → both_fit x.order t ≡ false
+    no_extension some lt =
+        let has : has_extension t ≡ true = has_is ∙ some in
+        let long : FILE_LIMIT < length extension = subst (λ (b : List ℕ). FILE_LIMIT < length b) same_extension lt in
+        rw (has, more_than (length extension) FILE_LIMIT long) (and_false (nat_le (length (btf_bytes x.order t)) 15728640))
+
+    pub without_extension : {A : Type 0} (types : Vec ℕ A) → not (length fs == 0 && length rs == 0) ≡ false → length (written_btf x.order s names) ≤ 15728640
+        → types.items ≡ written_btf x.order s names → AreWritten x.order t (record { types = types; extension = None })
+    without_extension types none le is =
+        let has : has_extension t ≡ false = has_is ∙ none in
+        record { fit = rw (has, fits_btf le) refl; types = is ∙ same_btf; extension = rw has refl }
+
+    pub with_extension : {A : Type 0} (types bytes : Vec ℕ A) → not (length fs == 0 && length rs == 0) ≡ true → length (written_btf x.order s names) ≤ 15728640
+        → types.items ≡ written_btf x.order s names → length (written_extension x (placed names) fs rs) ≤ FILE_LIMIT
+        → bytes.items ≡ written_extension x (placed names) fs rs → AreWritten x.order t (record { types = types; extension = Some bytes })
+    with_extension types bytes some le is short whole =
+        let has : has_extension t ≡ true = has_is ∙ some in
+        let fits : nat_le (length extension) FILE_LIMIT ≡ true =
+        at_most (length extension) FILE_LIMIT (subst (λ (b : List ℕ). length b ≤ FILE_LIMIT) same_extension short) in
+        record { fit = rw (has, fits_btf le, fits) refl; types = is ∙ same_btf; extension = rw has (ap Some (whole ∙ same_extension)) }

@@ -1,0 +1,186 @@
+-- A file denotes at most one object, and one that denotes an object has no fault.
+use Rattle.std.proofs.Common.{◌≡◌, ℕ, zero, suc, ◌<◌, ◌&&◌, Bool, true, false, lit<, Result, Ok, Err, Option, Some, None, List, [], ◌∷◌, ◌++◌, take, drop, inr, refl, sym, ◌∙◌, ap, subst, arith}
+use Rattle.std.proofs.lemmas.Bool.Decides.{nat_tests}
+use Rattle.std.specs.Prelude.{MatchResult, ◌==◌, if◌then◌else◌}
+use Rattle.bpf_words.specs.{Words.IsBytes}
+use Rattle.bpf_elf.specs.{ElfRules.IsElf, Rules.Broken, Rules.broken, Rules.first_broken, Rules.AllHold}
+use Rattle.bpf_elf.specs.Numbers.{order_of, offset}
+use Rattle.bpf_elf.specs.Sections.{file_size}
+use Rattle.btf_types.specs.{Sections.SectionWords, Sections.records_in}
+use Rattle.btf_types.proofs.{CheckLemmas.FaultLaws.no_fault_is_accepted}
+use Rattle.bpf_object.specs.declared.fault.{ObjectError.ObjectError, ObjectFault.ObjectFault}
+use Rattle.bpf_object.specs.declared.fault.ObjectError.TheVariants as errors
+use Rattle.bpf_object.specs.Canonical.{canonical}
+use Rattle.bpf_object.specs.Denotes.{Denotes, HoldsTypes, TypesAre, types_at, types_of, extension_at, rules_of_extension, object_types, object_of, extension_of, both_fit, types_fit, is_small, IsCanonicalFile}
+use Rattle.bpf_object.specs.FileWith.{btf_content, extension_content, file_with, fits_with}
+use Rattle.bpf_object.specs.{Extension.Section, Faults.IsFirstFault, Faults.ObjectRule, Lines.extension_rules}
+use Rattle.bpf_object.specs.ObjectFaults.{IsFault, of_elf, without_types, of_types, of_extension, of_result, IsWithoutTypesFault, IsFaultOfTypes, IsFaultOfExtension, IsFaultOfResult, IsTooLarge, Fails, FailsToFit}
+use Rattle.bpf_object.specs.Objects.{ObjectTypes, Object}
+use Rattle.bpf_object.specs.declared.source.Source.{Source}
+use Rattle.bpf_object.specs.{NotedStrings.IsChecked, Sources.section, WrittenTypes.IsRead}
+use Rattle.bpf_object.specs.Types.{TypesSection}
+use Rattle.bpf_object.specs.TypesFaults.{KeepsTypes, IsTypesFault, FailsTypes, of_size, of_btf, of_rules}
+use Rattle.bpf_object.proofs.DenotesOne.{words_one, types_one, denotes_one}
+use Rattle.bpf_object.proofs.FileBridge.{file_is, small_is}
+
+-- ---- no fault
+
+broken_none : {C : Type 0} (found : Option (Broken C)) (f : Broken C) → found ≡ Some f → found ≡ None → ⊥
+broken_none found f is none = cc
+
+bytes_take : (n : ℕ) (b : List ℕ) → IsBytes b → IsBytes (take n b)
+bytes_take zero b bytes i = lit< tt
+bytes_take (suc n) [] bytes i = lit< tt
+bytes_take (suc n) (x ∷ b) bytes zero = bytes zero
+bytes_take (suc n) (x ∷ b) bytes (suc i) = bytes_take n b (λ k. bytes (suc k)) i
+
+bytes_drop : (n : ℕ) (b : List ℕ) → IsBytes b → IsBytes (drop n b)
+bytes_drop zero b bytes i = bytes i
+bytes_drop (suc n) [] bytes i = lit< tt
+bytes_drop (suc n) (x ∷ b) bytes i = bytes_drop n b (λ k. bytes (suc k)) i
+
+types_faultless : (x : TypesSection) (s : SectionWords) (fault : ObjectFault) → IsBytes x.bytes → KeepsTypes x s → IsTypesFault x fault → ⊥
+types_faultless x s fault bytes keeps (of_size first) = broken_none _ _ first keeps.size
+types_faultless x s fault bytes keeps (of_btf size own) =
+    (no_fault_is_accepted x.bytes bytes).back (records_in s, keeps.sections.denotes) own.first.phase own.own.pos own.own.cause own.first.holds
+types_faultless x s fault bytes keeps (of_rules w size sections first) =
+    broken_none _ _ (rw (words_one x.bytes w s sections keeps.sections) at first) keeps.rules
+
+types_are_faultless : (b : List ℕ) (t : Option ObjectTypes) (fault : ObjectFault) → IsBytes b → TypesAre b t → IsFaultOfTypes b fault → ⊥
+types_are_faultless b None fault bytes types f = omega (arith, types.0, f.there)
+types_are_faultless b (Some t) fault bytes types f =
+    let at = types_at b in
+    types_faultless (types_of b) types.sections fault (bytes_take (file_size b at) (drop (offset b at) b) (bytes_drop (offset b at) b bytes)) types.types f.first
+
+bare_is_faultless : (b : List ℕ) (t : Option ObjectTypes) (fault : ObjectFault) → TypesAre b t → IsWithoutTypesFault b fault → ⊥
+bare_is_faultless b None fault types f = broken_none _ _ f.first types.1
+bare_is_faultless b (Some t) fault types f = omega (arith, types.there, f.no_types)
+
+extension_is_faultless : (b : List ℕ) (t : Option ObjectTypes) (fault : ObjectFault) → TypesAre b t → IsFaultOfExtension b fault → ⊥
+extension_is_faultless b None fault types f = omega (arith, types.0, f.there)
+extension_is_faultless b (Some t) fault types f =
+    let words = words_one (types_of b).bytes f.sections types.sections f.types.sections types.types.sections in
+    let there = subst (λ (s : SectionWords). IsFirstFault (rules_of_extension b s.strings) fault) words f.first in
+    broken_none (first_broken (rules_of_extension b types.sections.strings)) (broken fault.cause fault.pos) there types.extension
+
+different : true ≡ false → ⊥
+different e = cc
+
+result_is_small : (b : List ℕ) (x : Object) (fault : ObjectFault) → Denotes b x → IsFaultOfResult b fault → ⊥
+result_is_small b x fault d f =
+    let same : object_of b f.held ≡ x = ap (object_of b) (types_one b f.held x.types f.types d.types) ∙ sym d.whole in
+    different (sym d.small ∙ ap is_small (sym same) ∙ f.large)
+
+pub faultless : (b : List ℕ) (x : Object) (fault : ObjectFault) → IsBytes b → Denotes b x → IsFault b fault → ⊥
+faultless b x fault bytes d (of_elf f) = broken_none _ _ f.first d.elf
+faultless b x fault bytes d (without_types f) = bare_is_faultless b x.types fault d.types f
+faultless b x fault bytes d (of_types f) = types_are_faultless b x.types fault bytes d.types f
+faultless b x fault bytes d (of_extension f) = extension_is_faultless b x.types fault d.types f
+faultless b x fault bytes d (of_result f) = result_is_small b x fault d f
+
+fails_no_object : (b : List ℕ) (e : ObjectError) (x : Object) → IsBytes b → Denotes b x → Fails b e → e ≡ errors.Memory
+fails_no_object b (errors.Fault f) x bytes d fails = absurd (faultless b x f bytes d fails)
+fails_no_object b errors.Memory x bytes d fails = refl
+
+-- an answer to a file that denotes an object is the canonical file of this object, unless memory ran out
+pub answers_object : {T : Type 0} (items : T → List ℕ) (b : List ℕ) (x : Object) (r : Result T ObjectError) → IsBytes b → Denotes b x
+    → MatchResult r (λ canon. IsCanonicalFile b (items canon)) (Fails b) → MatchResult r (λ canon. items canon ≡ canonical x) (λ e. e ≡ errors.Memory)
+answers_object items b x (Ok canon) bytes d made = made.1.1 ∙ ap canonical (denotes_one b made.0 x made.1.0 d)
+answers_object items b x (Err e) bytes d fails = fails_no_object b e x bytes d fails
+
+-- ---- .BTF.ext
+
+no_zero : (n : ℕ) → 0 < n → (n == 0) ≡ false
+no_zero zero some = absurd (omega (arith, some))
+no_zero (suc n) some = grind (arith, nat_tests)
+
+chosen : {A : Type 0} (x : Bool) (a d : A) → x ≡ false → (if x then a else d) ≡ d
+chosen true a d off = absurd (different off)
+chosen false a d off = refl
+
+read_by : {A : Type 0} (x : Source) (xs ys : List ObjectRule) (r : Result A ObjectFault) → xs ≡ ys
+    → MatchResult r (λ _. AllHold xs × IsChecked x) (IsFirstFault xs) → MatchResult r (λ _. AllHold ys × IsRead x) (IsFirstFault ys)
+read_by x xs ys (Ok v) same h = (subst AllHold same h.0, inr h.1)
+read_by x xs ys (Err f) same h = subst (λ (rules : List ObjectRule). IsFirstFault rules f) same h
+
+-- a .BTF.ext that is there is checked by its rules
+pub source_checked : {A : Type 0} (b : List ℕ) (x : Source) (at : ℕ) (r : Result A ObjectFault) → at ≡ extension_at b → 0 < at
+    → section x ≡ extension_of b x.strings.now
+    → MatchResult r (λ _. AllHold (extension_rules (section x)) × IsChecked x) (IsFirstFault (extension_rules (section x)))
+    → MatchResult r (λ _. AllHold (rules_of_extension b x.strings.now) × IsRead x) (IsFirstFault (rules_of_extension b x.strings.now))
+source_checked b x at r found some own checks =
+    let there : (extension_at b == 0) ≡ false = no_zero (extension_at b) (omega (arith, some, found)) in
+    let same : extension_rules (section x) ≡ rules_of_extension b x.strings.now =
+    ap extension_rules own ∙ sym (chosen (extension_at b == 0) [] (extension_rules (extension_of b x.strings.now)) there) in
+    read_by x (extension_rules (section x)) (rules_of_extension b x.strings.now) r same checks
+
+-- ---- what is written
+
+no_fit : (x y : Bool) → y ≡ false → (x && y) ≡ false
+no_fit true y over = over
+no_fit false y over = refl
+
+pub file_made : (b : List ℕ) (t : Option ObjectTypes) (out : List ℕ) → IsElf b → TypesAre b t → types_fit (object_of b t) ≡ true
+    → fits_with b (btf_content (order_of b) t) (extension_content (order_of b) t) ≡ true
+    → out ≡ file_with b (btf_content (order_of b) t) (extension_content (order_of b) t) → IsCanonicalFile b out
+file_made b t out elf types small fits is =
+    let both : (types_fit (object_of b t) && fits_with b (btf_content (order_of b) t) (extension_content (order_of b) t)) ≡ true = rw (small, fits) refl in
+    (object_of b t, (record { elf = elf; types = types; whole = refl; small = small_is b t ∙ both }, is ∙ sym (file_is b t)))
+
+pub large_types : (b : List ℕ) (t : Option ObjectTypes) (f : ObjectFault) → IsElf b → TypesAre b t → types_fit (object_of b t) ≡ false → IsTooLarge f → IsFault b f
+large_types b t f elf types over is =
+    let large : is_small (object_of b t) ≡ false = small_is b t ∙ ap (λ (x : Bool). x && fits_with b (btf_content (order_of b) t) (extension_content (order_of b) t)) over in
+    of_result (record { held = t; elf = elf; types = types; large = large; result = is })
+
+large_file : (b : List ℕ) (t : Option ObjectTypes) (f : ObjectFault) → IsElf b → TypesAre b t
+    → fits_with b (btf_content (order_of b) t) (extension_content (order_of b) t) ≡ false → IsTooLarge f → IsFault b f
+large_file b t f elf types over is =
+    let large = small_is b t ∙ no_fit (types_fit (object_of b t)) _ over in
+    of_result (record { held = t; elf = elf; types = types; large = large; result = is })
+
+abbrev pub FitsFile : {T : Type 0} → (T → List ℕ) → List ℕ → Option (List ℕ) → Option (List ℕ) → Result T ObjectError → Type 0
+FitsFile items b types extension r =
+    MatchResult r (λ out. (fits_with b types extension ≡ true) × (items out ≡ file_with b types extension)) (FailsToFit (fits_with b types extension))
+
+pub with_contents : {T : Type 0} (items : T → List ℕ) (b : List ℕ) (t : Option ObjectTypes) (r : Result T ObjectError) → IsElf b → TypesAre b t → types_fit (object_of b t) ≡ true
+    → FitsFile items b (btf_content (order_of b) t) (extension_content (order_of b) t) r → MatchResult r (λ out. IsCanonicalFile b (items out)) (Fails b)
+with_contents items b t (Ok out) elf types small made = file_made b t (items out) elf types small made.0 made.1
+with_contents items b t (Err (errors.Fault f)) elf types small made = large_file b t f elf types made.0 made.1
+with_contents items b t (Err errors.Memory) elf types small made = made
+
+-- ---- types
+
+pub types_fail : (b : List ℕ) (e : ObjectError) → IsElf b → 0 < types_at b → FailsTypes (types_of b) e → Fails b e
+types_fail b (errors.Fault f) elf there first = of_types (record { elf = elf; there = there; first = first })
+types_fail b errors.Memory elf there first = first
+
+-- .BTF and .BTF.ext keep all rules
+pub record Keeps (b : List ℕ) (s : SectionWords) : Type 0 where
+  pub elf : IsElf b
+  pub there : 0 < types_at b
+  pub types : KeepsTypes (types_of b) s
+  pub extension : AllHold (rules_of_extension b s.strings)
+
+held : (b : List ℕ) (s : SectionWords) → Keeps b s → HoldsTypes b (object_types s (extension_of b s.strings))
+held b s k = record { sections = s; there = k.there; types = k.types; extension = k.extension; whole = refl }
+
+pub typed_large : (b : List ℕ) (s : SectionWords) (x : Section) (f : ObjectFault) → Keeps b s → x ≡ extension_of b s.strings → both_fit x.order (object_types s x) ≡ false → IsTooLarge f
+    → IsFault b f
+typed_large b s x f k own over is =
+    let large = subst (λ (x : Section). both_fit x.order (object_types s x) ≡ false) own over in
+    large_types b (Some (object_types s (extension_of b s.strings))) f k.elf (held b s k) large is
+
+-- the contents are those of these types
+abbrev pub ContentsAre : SectionWords → Section → Option (List ℕ) → Option (List ℕ) → Type 0
+ContentsAre s x types extension =
+    (both_fit x.order (object_types s x) ≡ true)
+    × ((types ≡ btf_content x.order (Some (object_types s x))) × (extension ≡ extension_content x.order (Some (object_types s x))))
+
+pub typed_file : {T : Type 0} (items : T → List ℕ) (b : List ℕ) (s : SectionWords) (x : Section) (types extension : Option (List ℕ)) (r : Result T ObjectError) → Keeps b s
+    → x ≡ extension_of b s.strings → ContentsAre s x types extension → FitsFile items b types extension r → MatchResult r (λ out. IsCanonicalFile b (items out)) (Fails b)
+typed_file items b s x types extension r k own contents made =
+    let t = object_types s (extension_of b s.strings) in
+    let at = subst (λ (x : Section). ContentsAre s x types extension) own contents in
+    let with_types = subst (λ (types : Option (List ℕ)). FitsFile items b types extension r) at.1.0 made in
+    let both = subst (λ (extension : Option (List ℕ)). FitsFile items b (btf_content (order_of b) (Some t)) extension r) at.1.1 with_types in
+    with_contents items b (Some t) r k.elf (held b s k) at.0 both

@@ -1,0 +1,19 @@
+use Rattle.std.proofs.Common.{Some, ap, ◌∙◌, refl}
+use Rattle.bpf_object.specs.{Sources.section}
+use Rattle.bpf_object.proofs.ObjectLemmas.{Keeps, typed_large, typed_file}
+use Rattle.bpf_object.proofs.canon.write_typed.Goals as goal
+
+pub returns-in_default : goal.returns-in_default
+returns-in_default g c =
+    let keeps : Keeps c.args.elf.now c.args.sections.now =
+    record { elf = c.requires.elf; there = c.requires.there; types = c.requires.types; extension = c.requires.extension } in
+    let over = rw c.in_default.is at c.in_ok-written.ensures in
+    typed_large c.args.elf.now c.args.sections.now (section c.args.x) _ keeps c.requires.own over (record { pos = refl; cause = refl })
+
+pub returns : goal.returns
+returns g c =
+    let keeps : Keeps c.args.elf.now c.args.sections.now =
+    record { elf = c.requires.elf; there = c.requires.there; types = c.requires.types; extension = c.requires.extension } in
+    let written = rw c.in-Some.is at c.in_ok-written.ensures in
+    typed_file (λ out. out.items) c.args.elf.now c.args.sections.now (section c.args.x) _ _ c.fitting_file.result keeps c.requires.own
+    (written.fit, (ap Some (c.as_slice.ensures.value ∙ written.types), c.content-extension.ensures ∙ written.extension)) c.fitting_file.ensures

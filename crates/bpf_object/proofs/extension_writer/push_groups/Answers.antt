@@ -1,0 +1,11 @@
+use Rattle.bpf_object.specs.NotedStrings.{placed}
+use Rattle.bpf_object.specs.Sources.{section}
+use Rattle.bpf_object.specs.WrittenGroups.{group_bytes_at}
+use Rattle.bpf_object.proofs.KeptLemmas.{appended}
+use Rattle.bpf_object.proofs.WrittenStrings.{taken_next}
+use Rattle.bpf_object.proofs.extension_writer.push_groups.Goals as goal
+
+pub loop-k-preserved : goal.loop-k-preserved
+loop-k-preserved g c =
+    let next = taken_next (group_bytes_at (section c.args.x) (placed c.args.names.now) c.args.part) c.args.groups.now c.loop-k.k 0 c.loop-k-test.true in
+    appended _ _ _ _ _ _ c.loop-k.invariant c.in_ok-push_group.ensures next

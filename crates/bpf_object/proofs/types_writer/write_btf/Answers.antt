@@ -1,0 +1,24 @@
+use Rattle.std.proofs.Common.{length, sym, ◌∙◌}
+use Rattle.bpf_object.specs.NotedStrings.{placed}
+use Rattle.bpf_object.proofs.TypesLength.{types_length, btf_pushed, btf_short, btf_long}
+use Rattle.bpf_object.proofs.types_writer.write_btf.Goals as goal
+
+pub returns-then-not-is_short : goal.returns-then-not-is_short
+returns-then-not-is_short g c =
+    let s = c.args.sections.now in
+    let types = c.types-types_len.result.now in
+    let len = types_length s c.types-types_len.ensures.table s.order c.args.order (placed c.args.names.now) types c.types-types_len.ensures.section in
+    btf_long c.args.order s c.args.names.now (length types) c.table_len-table_len.result len c.table_len-table_len.ensures
+    (sym c.is_short.ensures ∙ c.if-not-is_short.true)
+
+pub returns : goal.returns
+returns g c =
+    let s = c.args.sections.now in
+    let types = c.types-types_len.result.now in
+    let len = types_length s c.types-types_len.ensures.table s.order c.args.order (placed c.args.names.now) types c.types-types_len.ensures.section in (
+      btf_short c.args.order s c.args.names.now (length types) c.table_len-table_len.result len c.table_len-table_len.ensures
+          (sym c.is_short.ensures ∙ c.if-not-is_short.false),
+      btf_pushed c.args.order s c.args.names.now (length types) c.table_len-table_len.result len c.table_len-table_len.ensures c.push_header.new.out.items
+          c.push_types.new.out.items c.push_table.new.out.items (rw c.new-out.ensures.items at c.in_ok-push_header.ensures) c.in_ok-push_types.ensures
+          c.in_ok-push_table.ensures,
+    )

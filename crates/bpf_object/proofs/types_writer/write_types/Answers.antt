@@ -1,0 +1,13 @@
+use Rattle.std.proofs.Common.{◌<◌, length, refl, sym}
+use Rattle.bpf_canon.specs.btf.strings.{NamesByPlace.placed_texts, DistinctNames.distinct_table}
+use Rattle.bpf_object.specs.Sources.{section}
+use Rattle.bpf_object.specs.WrittenTypes.{both_names}
+use Rattle.bpf_object.proofs.FitLemmas.{no_table}
+use Rattle.bpf_object.proofs.types_writer.write_types.Goals as goal
+
+pub returns-in_default : goal.returns-in_default
+returns-in_default g c =
+    let s = c.args.sections.now in
+    let names = both_names s (section c.args.x) in
+    let long : 15728640 < length (distinct_table (placed_texts names)) = rw c.in_default.is at c.in_ok-names.ensures.places in
+    no_table s (section c.args.x) (sym c.requires.strings) c.in_ok-names.ensures.table names refl long

@@ -1,0 +1,38 @@
+-- What the records of .BTF.ext say: functions and CO-RE relocations, by the section of their group.
+use Rattle.std.specs.Prelude.{ℕ, true, ◌+◌, List, map}
+use Rattle.bpf_elf.specs.Names.{string_at}
+use Rattle.bpf_object.specs.declared.extension.Part.TheVariants.{Functions, Relocations}
+use Rattle.bpf_object.specs.Extension.{Section, word, group_count, groups, record_place}
+use Rattle.bpf_object.specs.Kept.{listed}
+use Rattle.bpf_object.specs.Lines.{name_of}
+use Rattle.bpf_object.specs.Objects.{Function, CoreRelocation, Group}
+
+-- insn_off and type_id of a function
+abbrev pub function_at : Section → ℕ → ℕ → Function
+function_at x g k = record { offset = word x (record_place Functions g k); type = word x (record_place Functions g k + 4) }
+
+-- access_str_off of a CO-RE relocation
+abbrev pub access_off : Section → ℕ → ℕ → ℕ
+access_off x g k = word x (record_place Relocations g k + 8)
+
+-- insn_off, type_id, the access string and the kind of a CO-RE relocation
+abbrev pub relocation_at : Section → ℕ → ℕ → CoreRelocation
+relocation_at x g k = record {
+  offset = word x (record_place Relocations g k);
+  type = word x (record_place Relocations g k + 4);
+  access = string_at x.strings (access_off x g k);
+  kind = word x (record_place Relocations g k + 12);
+}
+
+abbrev pub function_group : Section → ℕ → Group Function
+function_group x g = record { section = name_of x g; records = listed (λ k. true) (function_at x g) (group_count x g) }
+
+abbrev pub relocation_group : Section → ℕ → Group CoreRelocation
+relocation_group x g = record { section = name_of x g; records = listed (λ k. true) (relocation_at x g) (group_count x g) }
+
+-- all groups
+abbrev pub function_groups : Section → List (Group Function)
+function_groups x = map (function_group x) (groups x Functions)
+
+abbrev pub relocation_groups : Section → List (Group CoreRelocation)
+relocation_groups x = map (relocation_group x) (groups x Relocations)

@@ -1,0 +1,115 @@
+//! The whole section .BTF.ext of a canonical file, from its groups.
+
+ghost use Rattle.std.specs.Prelude.{◌≡◌, ◌++◌, ◌+◌, ◌<◌, ◌≤◌, nat_le, length, IfOk, MatchOption, OnOk};
+ghost use Rattle.std.specs.List.{All};
+ghost use Rattle.bpf_elf.specs.Header.{FILE_LIMIT as spec_limit};
+ghost use Rattle.bpf_object.specs.declared.extension.Part.TheVariants.{Functions, Relocations};
+ghost use Rattle.bpf_object.specs.Canonical.{extension_of as spec_extension, extension_header};
+ghost use Rattle.bpf_object.specs.NotedStrings.{HasStrings, placed};
+ghost use Rattle.bpf_object.specs.Sources.{section, HasGroup};
+ghost use Rattle.bpf_object.specs.WrittenGroups as spec;
+
+use crate::extension::Part;
+use crate::extension_writer::push_part;
+use crate::source::Source;
+use bpf_canon::DistinctPlaces;
+use bpf_elf::FILE_LIMIT;
+use bpf_words::{Order, push_words, push16};
+use std::alloc::{AllocError, Allocator};
+
+/// Appends the header: hdr_len, and the offset and length of each part, from the end of the header.
+fn push_header<A: Allocator>(
+    out: &mut Vec<u8, A>,
+    order: Order,
+    functions: u32,
+    lines: u32,
+    relocations: u32,
+) -> Result<(), AllocError>
+    requires { functions + lines + relocations ≤ spec_limit }
+    ensures { OnOk result (out.new.items
+        ≡ out.old.items ++ extension_header order functions lines relocations) }
+{
+    push16(out, order, 0xeb9f)?;
+    out.extend_from_slice(&[1, 0])?;
+    push_words(out, order, &[32, 0, functions, functions, lines])?;
+    push_words(out, order, &[functions + lines, relocations])
+}
+
+/// Whether parts of these lengths have at most 64 MiB together with a header.
+fn fits(functions: usize, lines: usize, relocations: usize) -> bool
+    ensures { result ≡ nat_le (32 + (functions + lines + relocations)) spec_limit }
+{
+    let room = FILE_LIMIT - 32;
+    functions <= room && lines <= room - functions && relocations <= room - functions - lines
+}
+
+/// The section with these parts, or `None` if it has more than 64 MiB.
+#[tactic(auto, using(crate::proofs::WrittenExtension::length_extension))]
+fn extension_of<A: Allocator>(
+    alloc: A,
+    order: Order,
+    functions: &[u8],
+    lines: &[u8],
+    relocations: &[u8],
+) -> Result<Option<Vec<u8, A>>, AllocError>
+    ensures { let whole = spec_extension order functions.now lines.now relocations.now in
+        IfOk result (λ found. MatchOption found (spec_limit < length whole)
+        (λ out. (length whole ≤ spec_limit) × (out.items ≡ whole))) }
+{
+    if !fits(functions.len(), lines.len(), relocations.len()) {
+        return Ok(None);
+    }
+    let mut out = Vec::new(alloc);
+    push_header(
+        &mut out,
+        order,
+        functions.len() as u32,
+        lines.len() as u32,
+        relocations.len() as u32,
+    )?;
+    out.extend_from_slice(functions)?;
+    out.extend_from_slice(lines)?;
+    out.extend_from_slice(relocations)?;
+    Ok(Some(out))
+}
+
+/// A part of these groups.
+fn part_of<A: Allocator, B: Allocator>(
+    alloc: A,
+    names: &DistinctPlaces<'_, B>,
+    x: Source<'_>,
+    part: Part,
+    groups: &[usize],
+) -> Result<Vec<u8, A>, AllocError>
+    requires groups { All (HasGroup x (spec.source_part part)) groups.now }
+    requires names { All (HasStrings names.now x part) groups.now }
+    ensures { IfOk result (λ out. out.items
+        ≡ spec.written_part (section x.entry) (placed names.now) part groups.now) }
+{
+    let mut out = Vec::new(alloc);
+    push_part(&mut out, names, x, part, groups)?;
+    Ok(out)
+}
+
+/// The section with these groups, or `None` if it has more than 64 MiB.
+pub(crate) fn write_extension<A: Allocator + Copy>(
+    alloc: A,
+    names: &DistinctPlaces<'_, A>,
+    x: Source<'_>,
+    functions: &[usize],
+    relocations: &[usize],
+) -> Result<Option<Vec<u8, A>>, AllocError>
+    requires functions { All (HasGroup x Functions) functions.now }
+    requires relocations { All (HasGroup x Relocations) relocations.now }
+    requires function_names { All (HasStrings names.now x Functions) functions.now }
+    requires relocation_names { All (HasStrings names.now x Relocations) relocations.now }
+    ensures { let whole = spec.written_extension (section x.entry) (placed names.now)
+        functions.now relocations.now in
+        IfOk result (λ found. MatchOption found (spec_limit < length whole)
+        (λ out. (length whole ≤ spec_limit) × (out.items ≡ whole))) }
+{
+    let function_part = part_of(alloc, names, x, Part::Functions, functions)?;
+    let line_part = part_of(alloc, names, x, Part::Lines, functions)?;
+    let relocation_part = part_of(alloc, names, x, Part::Relocations, relocations)?;
+    extension_of(alloc, x.order, &function_part, &line_part, &relocation_part)
+}

@@ -1,0 +1,327 @@
+//! The canonical file of what a file keeps, with these bytes of .BTF and .BTF.ext.
+
+ghost use Rattle.std.specs.Prelude.{◌≡◌, ◌≢◌, ◌+◌, ◌*◌, ◌++◌, ◌∷◌, ◌<◌, ◌≤◌, ◌^◌, ◌&&◌, nat_lt, nat_le, [], true, false, map, length, is_some, IfOk, MatchOption, OnOk};
+ghost use Rattle.std.specs.List.{Contains};
+ghost use Rattle.bpf_elf.specs.ElfRules.{IsElf};
+ghost use Rattle.bpf_elf.specs.Header.{FILE_LIMIT as spec_limit, SHN_LORESERVE as spec_reserved};
+ghost use Rattle.bpf_elf.specs.Numbers.{count, order_of, flags_of};
+ghost use Rattle.bpf_elf.specs.Symbols.{symbol_count};
+ghost use Rattle.bpf_canon.specs.btf.strings.FirstUses.{noted_all};
+ghost use Rattle.bpf_object.specs.Canonical.{own_section as spec_own};
+ghost use Rattle.bpf_object.specs.File.{content_place};
+ghost use Rattle.bpf_object.specs.FileStrings as strings;
+ghost use Rattle.bpf_object.specs.FileWith as spec;
+ghost use Rattle.bpf_object.specs.FileWith.{IsFileWith};
+ghost use Rattle.bpf_object.specs.Kept.{is_kept_section, kept_sections, numbers};
+ghost use Rattle.bpf_object.specs.NotedStrings.{placed};
+ghost use Rattle.bpf_object.specs.ObjectParts.{AreParts, all_sections, bool_number, file_by, is_file_small, last_sections};
+ghost use Rattle.bpf_object.specs.Tables.{tables_bytes};
+ghost use Rattle.bpf_object.specs.Written.{content_of};
+ghost use Rattle.bpf_object.specs.WrittenSections.{section_at, section_value};
+
+use crate::file::{WrittenSection, padded_len, write_file};
+use crate::file_places::own_place;
+use crate::file_strings::{OwnSection, all_strings, note_strings};
+use crate::numbering::{section_numbers, symbol_numbers};
+use crate::relocation_rows::push_tables;
+use crate::section_writer::{kept_count, push_kept};
+use crate::symbol_rows::{first_global, push_symbols};
+use bpf_canon::{DistinctPlaces, FirstUses};
+use bpf_elf::{Elf, FILE_LIMIT};
+use std::alloc::{AllocError, Allocator};
+
+/// sh_type of sections that are written anew.
+const SHT_PROGBITS: u32 = 1;
+
+const SHT_SYMTAB: u32 = 2;
+
+const SHT_STRTAB: u32 = 3;
+
+/// SHN_LORESERVE: the first index that isn't one of a section.
+const SHN_LORESERVE: usize = 0xff00;
+
+/// The contents that are written anew, but for .BTF and .BTF.ext.
+#[derive(Drop)]
+pub(crate) struct Parts<A: Allocator> {
+    /// For each section, how many kept ones precede it.
+    numbers: Vec<u32, A>,
+    /// The rows of all tables of relocations.
+    rows: Vec<u8, A>,
+    /// The symbols.
+    symbols: Vec<u8, A>,
+    /// The string table.
+    strings: Vec<u8, A>,
+}
+
+/// The rows of all tables of relocations.
+fn table_rows<A: Allocator + Copy>(alloc: A, elf: &Elf<'_>) -> Result<Vec<u8, A>, AllocError>
+    ensures { IfOk result (λ rows. rows.items ≡ tables_bytes elf.now (count elf.now)) }
+{
+    let numbers = symbol_numbers(alloc, elf)?;
+    let mut rows = Vec::new(alloc);
+    push_tables(&mut rows, elf, &numbers)?;
+    Ok(rows)
+}
+
+/// The contents of a file with these places of its strings.
+fn parts_of<A: Allocator + Copy>(
+    alloc: A,
+    elf: &Elf<'_>,
+    names: &DistinctPlaces<'_, A>,
+) -> Result<Parts<A>, AllocError>
+    requires { strings.HasFileStrings elf.now names.now }
+    ensures { IfOk result (AreParts elf.now names.now) }
+{
+    let numbers = section_numbers(alloc, elf)?;
+    let rows = table_rows(alloc, elf)?;
+    let mut symbols = Vec::new(alloc);
+    push_symbols(&mut symbols, names, elf, &numbers)?;
+    let mut strings = Vec::new(alloc);
+    names.push_table(&mut strings)?;
+    Ok(Parts {
+        numbers,
+        rows,
+        symbols,
+        strings,
+    })
+}
+
+/// A section that is written anew.
+fn own_section<'a>(
+    name_offset: u32,
+    section_type: u32,
+    content: &'a [u8],
+    link: u32,
+    info: u32,
+    alignment: u64,
+    entry_size: u64,
+) -> WrittenSection<'a>
+    ensures { section_value result
+        ≡ spec_own name_offset section_type content.now link info alignment entry_size }
+{
+    WrittenSection {
+        name_offset,
+        section_type,
+        flags: 0,
+        address: 0,
+        size: content.len() as u64,
+        link,
+        info,
+        alignment,
+        entry_size,
+        content,
+    }
+}
+
+/// Appends .BTF or .BTF.ext, if there is one.
+fn push_types<'a, A: Allocator, B: Allocator>(
+    sections: &mut Vec<WrittenSection<'a>, A>,
+    names: &DistinctPlaces<'_, B>,
+    elf: &Elf<'_>,
+    own: OwnSection,
+    content: Option<&'a [u8]>,
+) -> Result<(), AllocError>
+    requires strings { names.now.strings ≡ strings.all_strings elf.now }
+    requires noted { is_some (content_of content) ≡ true
+        → Contains names.now.offsets (strings.own_at elf.now + strings.own_off own) }
+    ensures { OnOk result (map section_value sections.new.items
+        ≡ map section_value sections.old.items
+        ++ spec.section_with (placed names.now) (strings.own_name own) (content_of content.entry)) }
+{
+    if let Some(content) = content {
+        let name = own_place(names, elf, own);
+        sections.push(own_section(name, SHT_PROGBITS, content, 0, 0, 4, 0))?;
+    }
+    Ok(())
+}
+
+/// The number of .symtab: it follows the kept sections, .BTF and .BTF.ext.
+fn symtab_number<A: Allocator>(
+    elf: &Elf<'_>,
+    parts: &Parts<A>,
+    has_types: bool,
+    has_extension: bool,
+) -> u32
+    requires { parts.now.numbers.items ≡ numbers (is_kept_section elf.now) (count elf.now) }
+    ensures value { result ≡ 1 + length (kept_sections elf.now) + bool_number has_types
+        + bool_number has_extension }
+    ensures small { result < 2 ^ 17 }
+{
+    1 + kept_count(elf, &parts.numbers) + u32::from(has_types) + u32::from(has_extension)
+}
+
+/// Appends .symtab and .strtab.
+fn push_last<'a, A: Allocator, B: Allocator, C: Allocator>(
+    sections: &mut Vec<WrittenSection<'a>, A>,
+    names: &DistinctPlaces<'_, B>,
+    elf: &Elf<'_>,
+    parts: &'a Parts<C>,
+    symtab: u32,
+) -> Result<(), AllocError>
+    requires names { strings.HasFileStrings elf.now names.now }
+    requires small { symtab < 2 ^ 17 }
+    ensures { OnOk result (map section_value sections.new.items
+        ≡ map section_value sections.old.items
+        ++ last_sections elf.now (placed names.now) symtab parts.now.symbols.items
+        parts.now.strings.items) }
+{
+    let symbols = parts.symbols.as_slice();
+    let name = own_place(names, elf, OwnSection::Symbols);
+    let first = first_global(elf);
+    sections.push(own_section(name, SHT_SYMTAB, symbols, symtab + 1, first, 8, 24))?;
+    let strings = parts.strings.as_slice();
+    let name = own_place(names, elf, OwnSection::Strings);
+    sections.push(own_section(name, SHT_STRTAB, strings, 0, 0, 1, 0))?;
+    Ok(())
+}
+
+/// Appends all sections.
+fn push_all<'a, A: Allocator, B: Allocator, C: Allocator>(
+    sections: &mut Vec<WrittenSection<'a>, A>,
+    names: &DistinctPlaces<'_, B>,
+    elf: &'a Elf<'_>,
+    parts: &'a Parts<C>,
+    types: Option<&'a [u8]>,
+    extension: Option<&'a [u8]>,
+) -> Result<(), AllocError>
+    requires names { strings.HasOwnStrings elf.now (content_of types) (content_of extension)
+        names.now }
+    requires parts { AreParts elf.now names.now parts.now }
+    ensures { OnOk result (map section_value sections.new.items
+        ≡ map section_value sections.old.items
+        ++ all_sections elf.now (placed names.now) (content_of types.entry)
+        (content_of extension.entry)
+        parts.now.symbols.items parts.now.strings.items) }
+{
+    let symtab = symtab_number(elf, parts, types.is_some(), extension.is_some());
+    let rows = parts.rows.as_slice();
+    push_kept(sections, names, elf, &parts.numbers, rows, symtab)?;
+    push_types(sections, names, elf, OwnSection::Types, types)?;
+    push_types(sections, names, elf, OwnSection::Extension, extension)?;
+    push_last(sections, names, elf, parts, symtab)?;
+    Ok(())
+}
+
+/// Whether a file of these sections isn't larger than a file may be.
+fn is_small(sections: &[WrittenSection<'_>]) -> bool
+    ensures { result ≡ (nat_lt (length sections.now + 1) spec_reserved
+        && nat_le (content_place (section_at sections.now) (length sections.now)
+        + 64 * (length sections.now + 1)) spec_limit) }
+{
+    if sections.len() + 1 >= SHN_LORESERVE {
+        return false;
+    }
+    fits(sections, (FILE_LIMIT - 64 * (sections.len() + 1)) as u64)
+}
+
+/// Whether the section header table of these sections begins at most at `limit`.
+fn fits(sections: &[WrittenSection<'_>], limit: u64) -> bool
+    requires { (64 ≤ limit) × (limit ≤ spec_limit) }
+    ensures { result
+        ≡ nat_le (content_place (section_at sections.now) (length sections.now)) limit }
+{
+    let mut place = 64;
+    for k in 0..sections.len() {
+        let len = sections[k].content.len();
+        if len > FILE_LIMIT {
+            return false;
+        }
+        place += padded_len(len);
+        if place > limit {
+            return false;
+        }
+    }
+    true
+}
+
+/// The file of these sections, or `None` if it is larger than a file may be.
+fn write_fitting<A: Allocator>(
+    alloc: A,
+    elf: &Elf<'_>,
+    sections: &[WrittenSection<'_>],
+) -> Result<Option<Vec<u8, A>>, AllocError>
+    ensures { IfOk result (λ found. MatchOption found
+        (is_file_small (map section_value sections.now) ≡ false)
+        (λ out. (is_file_small (map section_value sections.now) ≡ true)
+        × (out.items
+        ≡ file_by (order_of elf.now) (flags_of elf.now) (map section_value sections.now)))) }
+{
+    if !is_small(sections) {
+        return Ok(None);
+    }
+    let file = write_file(alloc, elf.order(), elf.flags(), sections)?;
+    Ok(Some(file))
+}
+
+/// A content, borrowed for a shorter time.
+fn borrowed<'x>(content: &'x Option<&[u8]>) -> Option<&'x [u8]>
+    ensures { content_of result ≡ content_of content.now }
+{
+    match content {
+        Some(content) => Some(&content[..]),
+        None => None,
+    }
+}
+
+/// The file of these contents, or `None` if it is larger than a file may be.
+fn write_parts<'a, A: Allocator + Copy>(
+    alloc: A,
+    elf: &'a Elf<'_>,
+    names: &DistinctPlaces<'_, A>,
+    parts: &'a Parts<A>,
+    types: Option<&'a [u8]>,
+    extension: Option<&'a [u8]>,
+) -> Result<Option<Vec<u8, A>>, AllocError>
+    requires rules { IsElf elf.now }
+    requires names { strings.HasOwnStrings elf.now (content_of types) (content_of extension)
+        names.now }
+    requires parts { AreParts elf.now names.now parts.now }
+    ensures { IfOk result
+        (IsFileWith elf.now (content_of types.entry) (content_of extension.entry)) }
+{
+    let mut sections = Vec::new(alloc);
+    push_all(&mut sections, names, elf, parts, types, extension)?;
+    let found = write_fitting(alloc, elf, &sections)?;
+    Ok(found)
+}
+
+/// The places of the strings in .strtab, or `None` if that is larger than a file may be.
+fn find_places<'s, A: Allocator + Copy>(
+    alloc: A,
+    elf: &Elf<'_>,
+    all: &'s [u8],
+    has_types: bool,
+    has_extension: bool,
+) -> Result<Option<DistinctPlaces<'s, A>>, AllocError>
+    requires rules { IsElf elf.now }
+    requires strings { all.now ≡ strings.all_strings elf.now }
+    ensures { IfOk result (λ found. MatchOption found
+        (spec_limit < length (strings.file_table elf.now has_types has_extension))
+        (λ p. (p.strings ≡ strings.all_strings elf.now)
+        × (p.offsets ≡ noted_all [] (strings.file_offsets elf.now has_types has_extension)))) }
+{
+    let mut uses = FirstUses::new(alloc, all)?;
+    note_strings(&mut uses, elf, has_types, has_extension)?;
+    let found = DistinctPlaces::find(alloc, uses, FILE_LIMIT as u32)?;
+    Ok(found)
+}
+
+/// The file, or `None` if it is larger than a file may be.
+pub(crate) fn write_object<A: Allocator + Copy>(
+    alloc: A,
+    elf: &Elf<'_>,
+    types: Option<&[u8]>,
+    extension: Option<&[u8]>,
+) -> Result<Option<Vec<u8, A>>, AllocError>
+    ensures { IfOk result
+        (IsFileWith elf.now (content_of types.entry) (content_of extension.entry)) }
+{
+    let strings = all_strings(alloc, elf)?;
+    let found = find_places(alloc, elf, &strings, types.is_some(), extension.is_some())?;
+    let Some(names) = found else {
+        return Ok(None);
+    };
+    let parts = parts_of(alloc, elf, &names)?;
+    let (types, extension) = (borrowed(&types), borrowed(&extension));
+    write_parts(alloc, elf, &names, &parts, types, extension)
+}

@@ -1,0 +1,188 @@
+//! The sections .BTF and .BTF.ext of a canonical file (Linux Documentation/bpf/btf.rst, sections 2
+//! and 4).
+//!
+//! The strings of both are in one table: the names of the types, then the strings of .BTF.ext.
+
+ghost use Rattle.std.specs.Prelude.{◌≡◌, ◌+◌, ◌<◌, ◌≤◌, ◌==◌, ◌&&◌, nat_le, false, not, length};
+ghost use Rattle.std.specs.Prelude.{IfOk, MatchOption, OnOk};
+ghost use Rattle.std.specs.List.{All, Contains};
+ghost use Rattle.btf_types.specs.tables.TableInvariant.{IsTable};
+ghost use Rattle.bpf_canon.specs.btf.strings.{FirstUses.noted_all, NamesByPlace.placed_texts};
+ghost use Rattle.bpf_canon.specs.btf.strings.DistinctNames.{distinct_table};
+ghost use Rattle.bpf_canon.specs.btf.write.NameOffsets.{all_offsets};
+ghost use Rattle.bpf_object.specs.declared.extension.Part.TheVariants.{Functions, Relocations};
+ghost use Rattle.bpf_object.specs.Denotes.{object_types, both_fit};
+ghost use Rattle.bpf_object.specs.Sources.{section};
+ghost use Rattle.bpf_object.specs.WrittenTypes as spec;
+
+use crate::extension::Part;
+use crate::extension_file::write_extension;
+use crate::extension_strings::note_groups;
+use crate::groups::groups_of;
+use crate::source::Source;
+use crate::types::TYPES_LIMIT;
+use bpf_canon::{DistinctPlaces, FirstUses, note_names, push_header, push_types};
+use bpf_words::Order;
+use btf_types::FileSections;
+use std::alloc::{AllocError, Allocator};
+
+/// The sections .BTF and .BTF.ext of a canonical file.
+#[derive(Drop)]
+pub(crate) struct WrittenTypes<A: Allocator> {
+    /// The bytes of .BTF.
+    pub(crate) types: Vec<u8, A>,
+    /// Those of .BTF.ext, if the file has functions or CO-RE relocations.
+    pub(crate) extension: Option<Vec<u8, A>>,
+}
+
+/// Where the groups of a part begin in the section, which may be empty.
+fn groups_in<A: Allocator>(alloc: A, x: Source<'_>, part: Part) -> Result<Vec<usize, A>, AllocError>
+    requires { spec.IsRead x }
+    ensures { IfOk result (λ found. spec.AreGroups x.entry part found.items) }
+{
+    if x.bytes.is_empty() {
+        return Ok(Vec::new(alloc));
+    }
+    groups_of(alloc, x, part)
+}
+
+/// Notes the strings of both sections in sequence.
+fn note_both<A: Allocator + Copy>(
+    uses: &mut FirstUses<'_, A>,
+    sections: &FileSections<'_>,
+    x: Source<'_>,
+    functions: &[usize],
+    relocations: &[usize],
+) -> Result<(), AllocError>
+    requires functions { spec.AreGroups x Functions functions.now }
+    requires relocations { spec.AreGroups x Relocations relocations.now }
+    requires strings { x.strings.now ≡ sections.now.strings }
+    requires uses { uses.old.strings ≡ sections.now.strings }
+    ensures strings { uses.new.strings ≡ uses.old.strings }
+    ensures offsets { OnOk result (uses.new.offsets
+        ≡ noted_all uses.old.offsets (spec.both_offsets sections.now (section x.entry))) }
+{
+    note_names(uses, sections)?;
+    note_groups(uses, x, Part::Functions, functions)?;
+    note_groups(uses, x, Part::Relocations, relocations)
+}
+
+/// The places of the strings of both sections, or `None` if their table has more than 15 MiB.
+fn find_names<'t, A: Allocator + Copy>(
+    alloc: A,
+    sections: &FileSections<'t>,
+    x: Source<'_>,
+    functions: &[usize],
+    relocations: &[usize],
+) -> Result<Option<DistinctPlaces<'t, A>>, AllocError>
+    requires functions { spec.AreGroups x Functions functions.now }
+    requires relocations { spec.AreGroups x Relocations relocations.now }
+    requires strings { x.strings.now ≡ sections.now.strings }
+    ensures places { let names = spec.both_names sections.now (section x.entry) in
+        IfOk result (λ found. MatchOption found
+        (15728640 < length (distinct_table (placed_texts names))) (λ places. places ≡ names)) }
+    ensures table { IsTable sections.now }
+{
+    let mut uses = FirstUses::new(alloc, sections.strings())?;
+    note_both(&mut uses, sections, x, functions, relocations)?;
+    DistinctPlaces::find(alloc, uses, TYPES_LIMIT as u32)
+}
+
+/// Whether records and a string table of these lengths have at most 15 MiB together with a header.
+fn is_short(types_len: usize, table_len: u32) -> bool
+    ensures { result ≡ nat_le (24 + types_len + table_len) 15728640 }
+{
+    let room = TYPES_LIMIT - 24;
+    types_len <= room && table_len as usize <= room - types_len
+}
+
+/// The section .BTF with the names at these places, or `None` if it has more than 15 MiB.
+fn write_btf<A: Allocator + Copy>(
+    alloc: A,
+    order: Order,
+    sections: &FileSections<'_>,
+    names: &DistinctPlaces<'_, A>,
+) -> Result<Option<Vec<u8, A>>, AllocError>
+    requires strings { names.now.strings ≡ sections.now.strings }
+    requires noted { All (Contains names.now.offsets) (all_offsets sections.now.frames) }
+    ensures { let whole = spec.written_btf order sections.now names.now in
+        IfOk result (λ found. MatchOption found (15728640 < length whole)
+        (λ out. (length whole ≤ 15728640) × (out.items ≡ whole))) }
+{
+    let types_len = sections.types().len();
+    let table_len = names.table_len();
+    if !is_short(types_len, table_len) {
+        return Ok(None);
+    }
+    let mut out = Vec::new(alloc);
+    push_header(&mut out, order, types_len as u32, table_len)?;
+    push_types(&mut out, order, names, sections)?;
+    names.push_table(&mut out)?;
+    Ok(Some(out))
+}
+
+/// Whether there is a .BTF.ext: it has functions or CO-RE relocations.
+fn has_extension(functions: &[usize], relocations: &[usize]) -> bool
+    ensures { result ≡ not (length functions.now == 0 && length relocations.now == 0) }
+{
+    !(functions.is_empty() && relocations.is_empty())
+}
+
+/// Both sections with these strings, or `None` if one of them is too large.
+fn write_both<A: Allocator + Copy>(
+    alloc: A,
+    sections: &FileSections<'_>,
+    x: Source<'_>,
+    names: &DistinctPlaces<'_, A>,
+    functions: &[usize],
+    relocations: &[usize],
+) -> Result<Option<WrittenTypes<A>>, AllocError>
+    requires functions { spec.AreGroups x Functions functions.now }
+    requires relocations { spec.AreGroups x Relocations relocations.now }
+    requires strings { x.strings.now ≡ sections.now.strings }
+    requires table { IsTable sections.now }
+    requires names { names.now ≡ spec.both_names sections.now (section x) }
+    ensures { let t = object_types sections.now (section x.entry) in
+        IfOk result (λ found. MatchOption found (both_fit x.entry.order t ≡ false)
+        (spec.AreWritten x.entry.order t)) }
+{
+    let Some(types) = write_btf(alloc, x.order, sections, names)? else {
+        return Ok(None);
+    };
+    if !has_extension(functions, relocations) {
+        return Ok(Some(WrittenTypes {
+            types,
+            extension: None,
+        }));
+    }
+    let Some(extension) = write_extension(alloc, names, x, functions, relocations)? else {
+        return Ok(None);
+    };
+    Ok(Some(WrittenTypes {
+        types,
+        extension: Some(extension),
+    }))
+}
+
+/// The sections .BTF and .BTF.ext of a canonical file, or `None` if .BTF has more than 15 MiB or
+/// .BTF.ext more than 64 MiB.
+///
+/// `sections` are the types of the file. `x` is its section .BTF.ext, or empty if it has none.
+pub(crate) fn write_types<A: Allocator + Copy>(
+    alloc: A,
+    sections: &FileSections<'_>,
+    x: Source<'_>,
+) -> Result<Option<WrittenTypes<A>>, AllocError>
+    requires extension { spec.IsRead x }
+    requires strings { x.strings.now ≡ sections.now.strings }
+    ensures { let t = object_types sections.now (section x.entry) in
+        IfOk result (λ found. MatchOption found (both_fit x.entry.order t ≡ false)
+        (spec.AreWritten x.entry.order t)) }
+{
+    let functions = groups_in(alloc, x, Part::Functions)?;
+    let relocations = groups_in(alloc, x, Part::Relocations)?;
+    let Some(names) = find_names(alloc, sections, x, &functions, &relocations)? else {
+        return Ok(None);
+    };
+    write_both(alloc, sections, x, &names, &functions, &relocations)
+}
