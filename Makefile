@@ -1,4 +1,4 @@
-# make            the command and the C library, proved and built (15 to 25 minutes at first), in out/prefix
+# make            the commands and the C library, proved and built (15 to 25 minutes at first), in out/prefix
 # make demo       the main job on an example, unproved, in a minute; make demo-proved proves it first
 # make check      all proofs and tests (60 to 120 minutes); make check-quick what needs seconds and no proof; make check-tests the tests of
 #                 what is built
@@ -15,6 +15,7 @@ PYTHON = $(shell tests/python_with pytest xdist markdown_it elftools || tests/py
 PYTEST = $(PYTHON) -m pytest -n $(WORKERS) --dist loadgroup --durations=5
 WORKERS ?= $(shell nproc)
 COMMAND = crates/bpfcanon/out/bpfcanon
+OBJECT_COMMAND = crates/bpfcanon_object/out/bpfcanon_object
 ARCHIVE = crates/bpfcanon_c/out/libbpfcanon_c.a
 LIBRARY = out/prefix/include/bpfcanon.h
 VERSION := $(shell sed -n 's/^.define BPFCANON_VERSION "\(.*\)"$$/\1/p' capi/bpfcanon.h)
@@ -26,11 +27,13 @@ $(shell mkdir -p out)
 
 .PHONY: all demo demo-proved check check-quick check-tests check-c check-release prove record release-objects lint tools install uninstall
 .PHONY: dist wheel deb clean FORCE
-all: $(COMMAND) $(LIBRARY)
+all: $(COMMAND) $(OBJECT_COMMAND) $(LIBRARY)
 
 # --- what Rattle builds: it knows itself what is new
 $(COMMAND): FORCE
 	cd crates/bpfcanon && rt run < /dev/null
+$(OBJECT_COMMAND): FORCE
+	cd crates/bpfcanon_object && rt run -- --version
 $(ARCHIVE): FORCE
 	capi/archive --keep 2>&1 | tee -a out/archive.log
 FORCE:

@@ -17,10 +17,12 @@ from tests.needs import built, need
 
 pytest_plugins = ["tests.pages.plugin"]
 BUILT = TOP / "crates" / "bpfcanon" / "out" / "bpfcanon"
+OBJECTS_BUILT = TOP / "crates" / "bpfcanon_object" / "out" / "bpfcanon_object"
 
 
 def pytest_addoption(parser):
     parser.addoption("--program", type=pathlib.Path, default=BUILT, help="the built command")
+    parser.addoption("--object-program", type=pathlib.Path, default=OBJECTS_BUILT, help="the built command on object files")
     parser.addoption("--prefix", type=pathlib.Path, default=TOP / "out" / "prefix", help="where the C library is installed")
     parser.addoption("--release", type=pathlib.Path, help="the folder of a release")
     parser.addoption("--tree", type=pathlib.Path, default=TOP, help="the tree that it was made from")
@@ -39,8 +41,8 @@ def compares(function):
 
 def pytest_collection_modifyitems(items):
     for item in items:
-        used = {"program", "prefix", "release"} & set(getattr(item, "fixturenames", ["program"]))
-        for fixture, mark in ("program", "command"), ("prefix", "library"), ("release", "release"):
+        used = {"program", "object_program", "prefix", "release"} & set(getattr(item, "fixturenames", ["program"]))
+        for fixture, mark in ("program", "command"), ("object_program", "command"), ("prefix", "library"), ("release", "release"):
             if fixture in used:
                 item.add_marker(mark)
         if not used and not any(item.iter_markers("slow")):
@@ -57,6 +59,12 @@ def pytest_runtest_setup(item):
 def program(request):
     """The built command."""
     return Program(built(request.config.getoption("program"), "all"))
+
+
+@pytest.fixture(scope="session")
+def object_program(request):
+    """Where the built command on object files is."""
+    return built(request.config.getoption("object_program"), "all")
 
 
 @pytest.fixture

@@ -97,10 +97,13 @@ class Page(pytest.File):
         for path in TOP.iterdir():
             if path.name not in NO_LINKS:
                 (self.folder / path.name).symlink_to(path)
-        program, prefix = built(self.config.getoption("program"), "build"), self.config.getoption("prefix").resolve()
-        for place in self.folder / "crates" / "bpfcanon" / "out" / "bpfcanon", self.tools / "bin" / "bpfcanon":
-            place.parent.mkdir(parents=True)
-            place.symlink_to(program)
+        prefix = self.config.getoption("prefix").resolve()
+        (self.tools / "bin").mkdir(parents=True)
+        for option in "program", "object_program":
+            program = built(self.config.getoption(option), "build")
+            for place in self.folder / "crates" / program.name / "out" / program.name, self.tools / "bin" / program.name:
+                place.parent.mkdir(parents=True, exist_ok=True)
+                place.symlink_to(program)
         write(self.tools / "gitconfig", "[user]\nname = reader\nemail = reader@example.org\n")
         write(self.tools / "cargo" / "config.toml", CARGO)
         (self.tools / "go" / "src").mkdir(parents=True)

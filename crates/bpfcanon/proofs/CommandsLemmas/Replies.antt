@@ -1,7 +1,9 @@
 -- What the searches cite of the replies of commands.
-use Rattle.std.proofs.Common.{◌≤◌, ℕ, List, inl, inr, length}
+use Rattle.std.proofs.Common.{◌≤◌, ℕ, List, inl, inr, length, subst}
+use Rattle.std.proofs.lemmas.List.{length-map}
 use Rattle.bpf_words.specs.declared.Order.{Order}
 use Rattle.bpf_insn.specs.{declared.group.GroupSet.GroupSet, Groups.holds, Groups.AreGroupsOf}
+use Rattle.btf_types.specs.{Denotes.HoldsSections, Reading.record_of, Sections.SectionWords, Sections.records_in}
 use Rattle.bpfcanon.specs.declared.outcome.Outcome.TheVariants.{Done}
 use Rattle.bpfcanon.specs.commands.Reply as insn
 use Rattle.bpfcanon.specs.commands.BtfReply as btf
@@ -15,7 +17,14 @@ groups_listed limit order input set within found = insn.grouped found.0 (holds s
 
 pub ruleset insn_replies = (inl, inr, insn.read_back, insn.unread, groups_listed, insn.ungrouped)
 
-pub ruleset btf_replies = (inl, inr, btf.checked, btf.unchecked)
+-- the number of types of a file
+pub types_counted : (limit : ℕ) (input : List ℕ) (s : SectionWords) → length input ≤ limit → HoldsSections input s
+    → btf.IsBtfCheckReply limit input Done (btf.count_line (length s.frames))
+types_counted limit input s within held =
+    subst (λ (n : ℕ). btf.IsBtfCheckReply limit input Done (btf.count_line n)) (length-map s.frames (record_of s.strings))
+    (btf.checked (records_in s) within held.denotes)
+
+pub ruleset btf_replies = (inl, inr, types_counted, btf.unchecked)
 
 pub ruleset insn_same_replies = (inl, inr, insn.split_beyond, insn.first_at_fault, insn_same.compared, insn_same.second_faulty)
 

@@ -1,0 +1,4 @@
+mod CodeLemmas
+pub mod EscapeLemmas
+pub mod KeyLineLemmas
+pub mod TextLemmas

@@ -1,0 +1,11 @@
+use Rattle.std.proofs.Common.{flat_map, sym, ap, ◌∙◌, map-id}
+use Rattle.std.proofs.lemmas.Iterator.{YieldsList-from_chars}
+use Rattle.std.proofs.lemmas.Iterator.Consumers.{YieldsList-end}
+use Rattle.bpfcanon_object.specs.Formats.{github_char}
+use Rattle.bpfcanon_object.proofs.check.github_text.Goals as goal
+
+-- the loop has yielded all characters
+pub returns : goal.returns
+returns g c =
+    let end = YieldsList-end (YieldsList-from_chars c.args.text.now c.utf8.text cc) c.loop-c.yielded _ c.loop-c.yielded_by _ _ c.in-None.is c.next.ensures.steps in
+    c.loop-c.invariant ∙ ap (flat_map (github_char c.args.part)) (sym (map-id c.loop-c.yielded) ∙ end.0)

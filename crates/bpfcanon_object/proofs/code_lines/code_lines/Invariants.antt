@@ -1,0 +1,6 @@
+use Rattle.std.proofs.Common.{string_bytes}
+use Rattle.bpfcanon_object.specs.Code.{AreCodeLines}
+use Rattle.bpfcanon_object.proofs.code_lines.code_lines.Given as goal
+
+abbrev pub invariant-loop-i : goal.invariant-loop-i
+invariant-loop-i g l = AreCodeLines l.format l.name l.elf l.i (string_bytes l.lines)

@@ -1,0 +1,79 @@
+-- The lines of check, in its formats.
+use Rattle.std.specs.Prelude.{◌==◌, if◌then◌else◌, ◌++◌, ℕ, false, List, [], codes, decimal, encode_utf8}
+use Rattle.std.specs.List.{flat_map}
+use Rattle.std.specs.{Fmt.digits, Str.chars}
+use Rattle.bpf_insn.specs.{CauseNames.cause_name, declared.fault.SlotFault.SlotFault}
+use Rattle.bpfcanon_object.specs.Escape.{escaped, is_control, two_digits}
+use Rattle.bpfcanon_object.specs.Lines.{newline}
+use Rattle.bpfcanon_object.specs.declared.check.{Format.Format, Part.Part}
+use Rattle.bpfcanon_object.specs.declared.check.Format.TheVariants.{Text, Json, Github}
+use Rattle.bpfcanon_object.specs.declared.check.Part.TheVariants.{Property, Message}
+
+-- a control character of a JSON string, by its number
+abbrev pub json_control : ℕ → List ℕ
+json_control c = codes "\\u00" ++ two_digits c
+
+-- a character of a JSON string (RFC 8259 section 7); control characters above 31 are escaped too
+abbrev pub json_char : ℕ → List ℕ
+json_char c =
+    if c == 34 then codes "\\\"" else
+    if c == 92 then codes "\\\\" else
+    if is_control c then json_control c else encode_utf8 c
+
+-- what is between the quotation marks of a JSON string
+abbrev pub json_text : List ℕ → List ℕ
+json_text text = flat_map json_char (chars text)
+
+-- a character of a workflow command of GitHub Actions
+abbrev pub github_char : Part → ℕ → List ℕ
+github_char Property c =
+    if c == 37 then codes "%25" else
+    if c == 58 then codes "%3A" else
+    if c == 44 then codes "%2C" else encode_utf8 c
+github_char Message c = if c == 37 then codes "%25" else encode_utf8 c
+
+-- a part of a workflow command
+abbrev pub github_text : Part → List ℕ → List ℕ
+github_text part text = flat_map (github_char part) (chars text)
+
+-- a JSON object for a file, with members after that of its name
+abbrev pub json_line : List ℕ → List ℕ → List ℕ
+json_line name members = codes "{\"file\":\"" ++ (json_text name ++ (codes "\"," ++ (members ++ (codes "}" ++ newline))))
+
+-- the members for a fault: its offset, and its cause
+abbrev pub json_fault : ℕ → List ℕ → List ℕ
+json_fault pos cause =
+    codes "\"accepted\":false,\"offset\":" ++ (decimal pos ++ (codes ",\"text\":\"" ++ (json_text cause ++ codes "\"")))
+
+-- the lines for a file that is accepted
+abbrev pub accepted_lines : Format → List ℕ → List ℕ
+accepted_lines Text name = escaped name ++ (codes ": accepted" ++ newline)
+accepted_lines Json name = json_line name (codes "\"accepted\":true")
+accepted_lines Github name = []
+
+-- the workflow command for a fault: its offset, and its cause
+abbrev pub github_line : List ℕ → ℕ → List ℕ → List ℕ
+github_line name pos cause =
+    codes "::error file=" ++ (github_text Property (escaped name)
+    ++ (codes "::" ++ (github_text Message (escaped name)
+    ++ (codes ": " ++ (decimal pos ++ (codes ": " ++ (github_text Message cause ++ newline)))))))
+
+-- where a fault of code is, and its cause: SECTION+0xOFFSET: CAUSE
+abbrev pub code_place : List ℕ → SlotFault → List ℕ
+code_place section fault =
+    escaped section ++ (codes "+0x" ++ (digits 16 false fault.pos ++ (codes ": " ++ cause_name fault.cause)))
+
+-- the members for a fault of code
+abbrev pub json_code : List ℕ → ℕ → List ℕ → List ℕ
+json_code section pos cause =
+    codes "\"section\":\"" ++ (json_text section ++ (codes "\",\"offset\":" ++ (decimal pos
+    ++ (codes ",\"text\":\"" ++ (cause ++ codes "\"")))))
+
+-- the line for a fault of code: its section, the offset there, and its cause
+abbrev pub code_line : Format → List ℕ → List ℕ → SlotFault → List ℕ
+code_line Text name section fault = escaped name ++ (codes ": " ++ (code_place section fault ++ newline))
+code_line Json name section fault = json_line name (json_code section fault.pos (cause_name fault.cause))
+code_line Github name section fault =
+    codes "::error file=" ++ (github_text Property (escaped name)
+    ++ (codes "::" ++ (github_text Message (escaped name)
+    ++ (codes ": " ++ (github_text Message (code_place section fault) ++ newline)))))

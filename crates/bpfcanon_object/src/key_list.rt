@@ -1,0 +1,113 @@
+//! `key --check`: the files of a list of keys, as `sha256sum -c` compares them.
+
+ghost use Rattle.std.specs.Prelude.{◌≡◌, ◌++◌, [], ◌∷◌, ℕ, List, length, IfOk, IfSome};
+ghost use Rattle.std.specs.{Prelude.string_bytes, Str.IsUtf8};
+ghost use Rattle.hex.specs.Hex.{IsBytes};
+ghost use Rattle.bpfcanon_object.specs.Answers.{IsRowAnswer, IsUnreadRowAnswer};
+ghost use Rattle.bpfcanon_object.specs.KeyLines as spec;
+
+use crate::answer::{Answer, Status, fault_answer, trouble_answer};
+use crate::escape::{marked, unescaped};
+use crate::key::{Key, key_line};
+use bpf_object::ObjectFault;
+use hex::FromHex;
+use std::alloc::{AllocError, Allocator, Global};
+
+/// A line of a list of keys.
+#[derive(Debug, Drop)]
+pub struct Row<A: Allocator = Global> {
+    /// The key.
+    pub key: Key,
+    /// The name of the file.
+    pub name: String<A>,
+}
+
+/// The digits of the key and the text of the name in a line, and whether the text is escaped.
+fn split_line(line: &str) -> Option<(&str, bool, &str)> {
+    let (is_escaped, rest) = match line.strip_prefix('\\') {
+        Some(rest) => (true, rest),
+        None => (false, line),
+    };
+    let (digits, text) = rest.split_once("  ")?;
+    Some((digits, is_escaped, text))
+}
+
+/// The name that is written as a text, if there is one.
+fn name_of<A: Allocator + Copy>(
+    alloc: A,
+    is_escaped: bool,
+    text: &str,
+) -> Result<Option<String<A>>, AllocError> {
+    if is_escaped {
+        return unescaped(alloc, text);
+    }
+    Ok(Some(String::from_str(alloc, text)?))
+}
+
+/// The row of a line without its newline. `None` if `key` writes no such line.
+pub fn read_row<A: Allocator + Copy>(alloc: A, line: &str) -> Result<Option<Row<A>>, AllocError>
+    ensures found { IfOk result (λ found. IfSome found (λ row.
+        spec.key_line row.key (string_bytes row.name) ≡ line.now ++ 10 ∷ [])) }
+    ensures only { IfOk result (λ found. IfSome found (λ row.
+        (key name : List ℕ) → IsBytes key → length key ≡ 32 → IsUtf8 name
+        → spec.key_line key name ≡ line.now ++ 10 ∷ []
+        → (key ≡ row.key) × (name ≡ string_bytes row.name))) }
+{
+    let Some((digits, is_escaped, text)) = split_line(line) else {
+        return Ok(None);
+    };
+    let Ok(key) = Key::from_hex(digits) else {
+        return Ok(None);
+    };
+    let Some(name) = name_of(alloc, is_escaped, text)? else {
+        return Ok(None);
+    };
+    let again = key_line(alloc, key, name.as_str())?;
+    let given = format!(in alloc; "{line}\n")?;
+    if again.as_str() != given.as_str() {
+        return Ok(None);
+    }
+    Ok(Some(Row { key, name }))
+}
+
+/// The answer for a file that was read: its name, and whether it has the key of its row. What is
+/// refused has no key.
+pub fn row_answer<A: Allocator + Copy>(
+    alloc: A,
+    name: &str,
+    wanted: Key,
+    key: Result<Key, ObjectFault>,
+) -> Result<Answer<A>, AllocError>
+    ensures { IfOk result (IsRowAnswer name.now wanted key) }
+{
+    let text = marked(alloc, name)?;
+    match key {
+        Ok(key) if key == wanted => {
+            let line = format!(in alloc; "{text}: OK\n")?;
+            Ok(Answer::of_lines(alloc, Status::Yes, line))
+        }
+        Ok(_) => {
+            let line = format!(in alloc; "{text}: FAILED\n")?;
+            Ok(Answer::of_lines(alloc, Status::No, line))
+        }
+        Err(fault) => {
+            let mut answer = fault_answer(alloc, name, fault)?;
+            answer.lines = format!(in alloc; "{text}: FAILED\n")?;
+            Ok(answer)
+        }
+    }
+}
+
+/// The answer for a file that can't be read, and why.
+pub fn unread_row_answer<A: Allocator + Copy>(
+    alloc: A,
+    name: &str,
+    why: &str,
+) -> Result<Answer<A>, AllocError>
+    ensures { IfOk result (IsUnreadRowAnswer name.now why.now) }
+{
+    let text = marked(alloc, name)?;
+    let mut answer = trouble_answer(alloc, name, why)?;
+    answer.lines = format!(in alloc; "{text}: FAILED open or read\n")?;
+    Ok(answer)
+}

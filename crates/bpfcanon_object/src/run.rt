@@ -1,0 +1,260 @@
+//! Runs a command line: reads files, and puts an answer for each on the desk.
+
+use crate::answer::{Answer, fault_answer, trouble_answer};
+use crate::check::{Format, check_answer};
+use crate::desk::{Desk, Stop};
+use crate::files::{STANDARD, read_file, write_file};
+use crate::folder::Folder;
+use crate::key::{Key, key_answer};
+use crate::key_list::{read_row, row_answer, unread_row_answer};
+use crate::same::same_answer;
+use crate::words::Request;
+use bpf_object::{ObjectError, ObjectFault, SameError, canon_object, object_key, same_objects};
+use std::alloc::Global;
+use std::io::{Error, Write};
+use std::rt::Files;
+use std::{fs, str};
+
+/// A verb that answers for each file by itself.
+#[derive(Clone, Copy)]
+enum Each {
+    Key,
+    Check(Format),
+}
+
+/// A result of the library without the error of memory, which ends the program.
+fn judged<T>(found: Result<T, ObjectError>) -> Result<Result<T, ObjectFault>, Stop> {
+    match found {
+        Ok(value) => Ok(Ok(value)),
+        Err(ObjectError::Fault(fault)) => Ok(Err(fault)),
+        Err(ObjectError::Memory) => Err(Stop::Memory),
+    }
+}
+
+impl Each {
+    /// The answer for the bytes of a file.
+    fn answer(self, alloc: Global, name: &str, bytes: &[u8]) -> Result<Answer, Stop> {
+        match self {
+            Each::Key => Ok(key_answer(alloc, name, judged(object_key(alloc, bytes))?)?),
+            Each::Check(format) => check_answer(alloc, format, name, bytes),
+        }
+    }
+}
+
+/// The answer for a file that can't be read or written.
+fn error_answer(alloc: Global, name: &str, error: &Error) -> Result<Answer, Stop> {
+    let why = error.to_string(alloc)?;
+    Ok(trouble_answer(alloc, name, why.as_str())?)
+}
+
+fn run_file<R: Files + Input + AllocGlobal, O: Write, E: Write>(
+    rt: &R,
+    desk: &mut Desk<O, E>,
+    each: Each,
+    name: &str,
+) -> Result<(), Stop> {
+    let answer = match read_file(rt, name) {
+        Ok(bytes) => each.answer(rt.alloc(), name, bytes.as_slice())?,
+        Err(error) => error_answer(rt.alloc(), name, &error)?,
+    };
+    desk.put(&answer)
+}
+
+fn run_folder<R: Files + Input + AllocGlobal + Clone + Drop, O: Write, E: Write>(
+    rt: &R,
+    desk: &mut Desk<O, E>,
+    each: Each,
+    name: &str,
+) -> Result<(), Stop> {
+    let folder = Folder::read(rt, name)?;
+    if folder.objects.is_empty() && folder.unreadable.is_empty() {
+        let answer = trouble_answer(rt.alloc(), name, "there is no object file in this folder")?;
+        return desk.put(&answer);
+    }
+    for (name, error) in &folder.unreadable {
+        desk.put(&error_answer(rt.alloc(), name.as_str(), error)?)?;
+    }
+    for name in &folder.objects {
+        run_file(rt, desk, each, name.as_str())?;
+    }
+    Ok(())
+}
+
+/// Whether a name is that of a folder.
+fn is_folder<R: Files>(rt: &R, name: &str) -> bool {
+    match fs::metadata(rt, name) {
+        Ok(metadata) => metadata.is_dir() && name != STANDARD,
+        Err(_) => false,
+    }
+}
+
+fn run_files<R: Files + Input + AllocGlobal + Clone + Drop, O: Write, E: Write>(
+    rt: &R,
+    desk: &mut Desk<O, E>,
+    each: Each,
+    files: &[&str],
+) -> Result<(), Stop> {
+    for name in files {
+        if is_folder(rt, name) {
+            run_folder(rt, desk, each, name)?;
+        } else {
+            run_file(rt, desk, each, name)?;
+        }
+    }
+    Ok(())
+}
+
+/// Writes a canonical file to where it goes.
+fn put_canonical<R: Files + AllocGlobal, O: Write, E: Write>(
+    rt: &R,
+    desk: &mut Desk<O, E>,
+    output: Option<&str>,
+    bytes: &[u8],
+) -> Result<(), Stop> {
+    let name = output.unwrap_or(STANDARD);
+    if name == STANDARD {
+        return desk.put_bytes(bytes);
+    }
+    match write_file(rt, name, bytes) {
+        Ok(()) => Ok(()),
+        Err(error) => desk.put(&error_answer(rt.alloc(), name, &error)?),
+    }
+}
+
+fn run_canon<R: Files + Input + AllocGlobal, O: Write, E: Write>(
+    rt: &R,
+    desk: &mut Desk<O, E>,
+    file: &str,
+    output: Option<&str>,
+) -> Result<(), Stop> {
+    let alloc = rt.alloc();
+    match read_file(rt, file) {
+        Ok(bytes) => match judged(canon_object(alloc, bytes.as_slice()))? {
+            Ok(canonical) => put_canonical(rt, desk, output, canonical.as_slice()),
+            Err(fault) => desk.put(&fault_answer(alloc, file, fault)?),
+        },
+        Err(error) => desk.put(&error_answer(alloc, file, &error)?),
+    }
+}
+
+/// The answer for the bytes of two files.
+fn answer_for_two(
+    alloc: Global,
+    first: (&str, &[u8]),
+    second: (&str, &[u8]),
+) -> Result<Answer, Stop> {
+    match same_objects(alloc, first.1, second.1) {
+        Ok(is_same) => Ok(same_answer(alloc, is_same)?),
+        Err(SameError::First(fault)) => Ok(fault_answer(alloc, first.0, fault)?),
+        Err(SameError::Second(fault)) => Ok(fault_answer(alloc, second.0, fault)?),
+        Err(SameError::Memory) => Err(Stop::Memory),
+    }
+}
+
+fn run_same<R: Files + Input + AllocGlobal, O: Write, E: Write>(
+    rt: &R,
+    desk: &mut Desk<O, E>,
+    first: &str,
+    second: &str,
+) -> Result<(), Stop> {
+    let alloc = rt.alloc();
+    if first == STANDARD && second == STANDARD {
+        return desk.put(&trouble_answer(alloc, first, "standard input isn't two files")?);
+    }
+    let one = match read_file(rt, first) {
+        Ok(bytes) => bytes,
+        Err(error) => return desk.put(&error_answer(alloc, first, &error)?),
+    };
+    let other = match read_file(rt, second) {
+        Ok(bytes) => bytes,
+        Err(error) => return desk.put(&error_answer(alloc, second, &error)?),
+    };
+    desk.put(&answer_for_two(alloc, (first, one.as_slice()), (second, other.as_slice()))?)
+}
+
+/// Compares the file of a row with its key.
+fn run_row<R: Files + Input + AllocGlobal, O: Write, E: Write>(
+    rt: &R,
+    desk: &mut Desk<O, E>,
+    wanted: Key,
+    name: &str,
+) -> Result<(), Stop> {
+    let alloc = rt.alloc();
+    match read_file(rt, name) {
+        Ok(bytes) => {
+            let key = judged(object_key(alloc, bytes.as_slice()))?;
+            desk.put(&row_answer(alloc, name, wanted, key)?)
+        }
+        Err(error) => {
+            let why = error.to_string(alloc)?;
+            desk.put(&unread_row_answer(alloc, name, why.as_str())?)
+        }
+    }
+}
+
+/// Compares the files of a list with their keys. A line that `key` doesn't write is trouble.
+fn run_rows<R: Files + Input + AllocGlobal, O: Write, E: Write>(
+    rt: &R,
+    desk: &mut Desk<O, E>,
+    list: &str,
+    text: &str,
+) -> Result<(), Stop> {
+    let alloc = rt.alloc();
+    for (i, line) in text.lines().enumerate() {
+        match read_row(alloc, line)? {
+            Some(row) => run_row(rt, desk, row.key, row.name.as_str())?,
+            None => {
+                let why = format!(in alloc; "line {} isn't one of a key", i + 1)?;
+                desk.put(&trouble_answer(alloc, list, why.as_str())?)?;
+            }
+        }
+    }
+    Ok(())
+}
+
+fn run_list<R: Files + Input + AllocGlobal, O: Write, E: Write>(
+    rt: &R,
+    desk: &mut Desk<O, E>,
+    list: &str,
+) -> Result<(), Stop> {
+    let alloc = rt.alloc();
+    let bytes = match read_file(rt, list) {
+        Ok(bytes) => bytes,
+        Err(error) => return desk.put(&error_answer(alloc, list, &error)?),
+    };
+    match str::from_utf8(bytes.as_slice()) {
+        Ok(text) if !text.is_empty() => run_rows(rt, desk, list, text),
+        _ => desk.put(&trouble_answer(alloc, list, "this isn't a list of keys")?),
+    }
+}
+
+fn run_lists<R: Files + Input + AllocGlobal, O: Write, E: Write>(
+    rt: &R,
+    desk: &mut Desk<O, E>,
+    lists: &[&str],
+) -> Result<(), Stop> {
+    for list in lists {
+        run_list(rt, desk, list)?;
+    }
+    Ok(())
+}
+
+/// Does what a command line asks for.
+///
+/// # Errors
+///
+/// `WriteFailed` if standard output or standard error takes no more, and `Memory`. What was written
+/// before stays so.
+pub fn run<R: Files + Input + AllocGlobal + Clone + Drop, O: Write, E: Write>(
+    rt: &R,
+    desk: &mut Desk<O, E>,
+    request: Request<'_>,
+) -> Result<(), Stop> {
+    match request {
+        Request::Canon { file, output } => run_canon(rt, desk, file, output),
+        Request::Key(files) => run_files(rt, desk, Each::Key, files),
+        Request::KeyCheck(lists) => run_lists(rt, desk, lists),
+        Request::Same { first, second } => run_same(rt, desk, first, second),
+        Request::Check { format, files } => run_files(rt, desk, Each::Check(format), files),
+    }
+}

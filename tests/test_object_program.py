@@ -1,0 +1,408 @@
+"""Runs the built command bpfcanon-object as a process: its verbs, its statuses, and what it does to files.
+
+What it answers for a file that it has read is stated by contracts. Here are files, folders and words, and the comparison with the reference.
+"""
+
+from __future__ import annotations
+
+import functools
+import hashlib
+import json
+import os
+import re
+import stat
+import subprocess
+
+import pytest
+
+from tests import TOP
+from tests.command import SECONDS, Ran
+from tests.needs import need
+from tests.reference import object_reference
+
+CRATE = TOP / "crates" / "bpfcanon_object"
+# The canonical file that the gate gives to the command on standard input.
+CANONICAL = (CRATE / "stdin").read_bytes()
+KEY = hashlib.sha256(CANONICAL).hexdigest()
+# Others: a word of the code, and the reserved bits of the flags of the file, which are kept.
+OTHER = CANONICAL[:48] + b"\1" + CANONICAL[49:]
+CUT = CANONICAL[:40]
+SOURCES = ("flow_table", "hash_words", "packet_filter", "pass")
+TARGETS = ("bpfel", "bpfeb")
+# Names that something could act on, and how they are printed. sha256sum escapes the first four in the same way.
+NAMES = {
+    "plain ü.o": "plain ü.o",
+    "back\\slash.o": "back\\\\slash.o",
+    "two\nlines.o": "two\\nlines.o",
+    "carriage\rreturn.o": "carriage\\rreturn.o",
+    "red\x1b[31m\x7f.o": "red\\x1b[31m\\x7f.o",
+    "next\x85\x9b31m.o": "next\\x85\\x9b31m.o",
+    "::error::\ttab, 100%.o": "::error::\\x09tab, 100%.o",
+}
+
+
+@pytest.fixture
+def run(object_program, tmp_path):
+    """Runs the command in a folder of its own: its words, and its input."""
+
+    def run(*words, input=b"", **how):
+        how = {"stdout": subprocess.PIPE, "stderr": subprocess.PIPE, "cwd": tmp_path} | how
+        done = subprocess.run([object_program, *words], input=input, timeout=SECONDS, check=False, **how)
+        return Ran(done.returncode, done.stdout or b"", done.stderr or b"")
+
+    return run
+
+
+@pytest.fixture
+def folder(tmp_path):
+    """Writes files in the folder that the command runs in."""
+
+    def write(**files):
+        for name, content in files.items():
+            (tmp_path / name).write_bytes(content)
+        return tmp_path
+
+    return write
+
+
+def has_fault(ran, name, offset, output=b""):
+    """Whether a file was refused: status 1, and a message with the name and the offset of the fault."""
+    return ran.status == 1 and ran.output == output and re.fullmatch(rb"%s: %d: [ -~]+\n" % (re.escape(name.encode()), offset), ran.message)
+
+
+def has_trouble(ran, name, output=b""):
+    """Whether nothing could be said of a file: status 2, and a message with its name."""
+    return ran.status == 2 and ran.output == output and re.fullmatch(rb"bpfcanon-object: %s: [ -~]+\n" % re.escape(name.encode()), ran.message)
+
+
+def test_canon(run, folder):
+    """The canonical file goes to standard output, or to a file, and comes from a file or standard input."""
+    made = folder(one=CANONICAL, two=OTHER)
+    assert run("canon", "one") == run("canon", "-o", "-", "one") == run("canon", "-", input=CANONICAL) == Ran(0, CANONICAL)
+    assert run("canon", "-o", "made", "one") == run("canon", "--output", "two", "-", input=CANONICAL) == Ran(0)
+    assert (made / "made").read_bytes() == (made / "two").read_bytes() == CANONICAL
+    assert sorted(it.name for it in made.iterdir()) == ["made", "one", "two"]
+
+
+def test_canon_faults(run, folder):
+    """A file that is refused, or that isn't there, leaves the output as it was."""
+    made = folder(cut=CUT, output=b"before", empty=b"")
+    assert has_fault(run("canon", "cut", "-o", "output"), "cut", len(CUT))
+    assert has_fault(run("canon", "empty", "-o", "output"), "empty", 0)
+    assert has_fault(run("canon", "-", "-o", "new", input=CUT), "-", len(CUT))
+    assert has_trouble(run("canon", "missing", "-o", "output"), "missing")
+    assert (made / "output").read_bytes() == b"before"
+    assert sorted(it.name for it in made.iterdir()) == ["cut", "empty", "output"]
+
+
+def test_canon_outputs(run, folder):
+    """The output keeps its permissions, a link stays one, a device is written to, and other outputs are trouble."""
+    made = folder(one=CANONICAL, output=b"before")
+    (made / "output").chmod(0o600)
+    (made / "link").symlink_to("output")
+    assert run("canon", "one", "-o", "link") == run("canon", "one", "-o", "/dev/null") == Ran(0)
+    assert (made / "link").is_symlink() and (made / "output").read_bytes() == CANONICAL
+    assert stat.S_IMODE((made / "output").stat().st_mode) == 0o600
+    assert stat.S_ISCHR(os.stat("/dev/null").st_mode)
+    assert run("canon", "one", "-o", "/dev/stdout") == Ran(0, CANONICAL)
+    assert has_trouble(run("canon", "one", "-o", "."), ".")
+    assert has_trouble(run("canon", "one", "-o", "missing/output"), "missing/output")
+    assert sorted(it.name for it in made.iterdir()) == ["link", "one", "output"]
+
+
+def test_longest(run, tmp_path):
+    """A file of more than 64 MiB is refused at that offset, and no more than that is read of a device without end."""
+    with (tmp_path / "long").open("wb") as file:
+        file.truncate(64 * 1024 * 1024 + 1)
+    assert has_fault(run("canon", "long"), "long", 64 * 1024 * 1024)
+    assert has_fault(run("canon", "/dev/zero"), "/dev/zero", 64 * 1024 * 1024)
+
+
+@pytest.mark.parametrize("name", NAMES, ids=ascii)
+def test_names(name, run, tmp_path):
+    """A name is printed without control characters, read again from a list of keys, and the same in JSON."""
+    (tmp_path / name).write_bytes(CANONICAL)
+    printed, mark = NAMES[name].encode(), b"\\" * (NAMES[name] != name)
+    line = b"%s%s  %s\n" % (mark, KEY.encode(), printed)
+    assert run("key", name) == Ran(0, line)
+    assert run("key", "--check", "-", input=line) == Ran(0, b"%s%s: OK\n" % (mark, printed))
+    assert run("check", name) == Ran(0, b"%s: accepted\n" % printed)
+    accepted = run("check", "--format", "json", name)
+    assert json.loads(accepted.output) == {"file": name, "accepted": True}
+    (tmp_path / name).write_bytes(CUT)
+    refused = run("check", "--format", "json", name)
+    assert refused.status == 1 and refused.message == b""
+    assert json.loads(refused.output) | {"text": ""} == {"file": name, "accepted": False, "offset": len(CUT), "text": ""}
+    assert has_fault(run("key", name), NAMES[name], len(CUT))
+    (tmp_path / name).unlink()
+    assert has_trouble(run("key", name), NAMES[name])
+    for ran in accepted, refused, run("same", name), run(name), run("check", "--format", name, name):
+        text = (ran.output + ran.message).decode()
+        assert text and re.fullmatch(r"[^\x00-\x09\x0b-\x1f\x7f-\x9f]*", text)
+
+
+def test_key(run, folder):
+    """A line for each file that has a key; the status is the worst one, and the others go on."""
+    folder(one=CANONICAL, two=OTHER, cut=CUT)
+    one, two = f"{KEY}  one\n".encode(), f"{hashlib.sha256(OTHER).hexdigest()}  two\n".encode()
+    assert run("key", "one", "two") == Ran(0, one + two)
+    assert run("key", "-", input=CANONICAL) == Ran(0, one.replace(b"one", b"-"))
+    assert has_fault(run("key", "one", "cut", "two"), "cut", len(CUT), one + two)
+    assert has_trouble(run("key", "one", "missing", "two"), "missing", one + two)
+    both = run("key", "missing", "cut")
+    assert both.status == 2 and len(both.message.splitlines()) == 2
+
+
+def test_key_check(run, folder):
+    """As `sha256sum -c` does: OK for a file that has its key, and FAILED for one that was changed, is refused or isn't there."""
+    made = folder(one=CANONICAL, two=OTHER, three=CANONICAL)
+    (made / "keys").write_bytes(run("key", "one", "two", "three").output)
+    assert run("key", "--check", "keys") == Ran(0, b"one: OK\ntwo: OK\nthree: OK\n")
+    folder(two=CANONICAL)
+    changed = b"one: OK\ntwo: FAILED\nthree: OK\n"
+    assert run("key", "-c", "keys") == run("key", "--check", "-", input=(made / "keys").read_bytes()) == Ran(1, changed)
+    folder(two=CUT)
+    assert has_fault(run("key", "--check", "keys"), "two", len(CUT), changed)
+    (made / "two").unlink()
+    assert has_trouble(run("key", "--check", "keys"), "two", changed.replace(b"FAILED", b"FAILED open or read"))
+
+
+# Lines that no key has.
+WRONG = {
+    "no key": b"one\n",
+    "upper case": KEY.upper().encode() + b"  one\n",
+    "63 digits": KEY[1:].encode() + b"  one\n",
+    "one blank": KEY.encode() + b" one\n",
+    "a star": KEY.encode() + b" *one\n",
+    "an escape without a backslash before the line": KEY.encode() + b"  on\\\\e\n",
+    "a backslash before a line without an escape": b"\\" + KEY.encode() + b"  one\n",
+    "an unknown escape": b"\\" + KEY.encode() + b"  on\\te\n",
+    "a number of another character": b"\\" + KEY.encode() + b"  on\\x65\n",
+    "an escape that is cut": b"\\" + KEY.encode() + b"  one\\\n",
+    "a control character": KEY.encode() + b"  on\x1be\n",
+    "an empty line": b"\n",
+}
+
+
+@pytest.mark.parametrize("line", WRONG.values(), ids=WRONG)
+def test_wrong_lines(line, run, folder):
+    """A line that `key` doesn't write is trouble, and the lines after it are read."""
+    folder(one=CANONICAL, keys=line + f"{KEY}  one\n".encode())
+    assert run("key", "--check", "keys") == Ran(2, b"one: OK\n", b"bpfcanon-object: keys: line 1 isn't one of a key\n")
+
+
+def test_wrong_lists(run, folder):
+    folder(empty=b"", bytes=b"\xff\n")
+    for name in "empty", "bytes", "missing", ".":
+        assert has_trouble(run("key", "--check", name), name)
+
+
+def test_same(run, folder):
+    folder(one=CANONICAL, again=CANONICAL, two=OTHER, cut=CUT)
+    assert run("same", "one", "again") == run("same", "-", "one", input=CANONICAL) == Ran(0, b"same\n")
+    assert run("same", "one", "two") == run("same", "two", "-", input=CANONICAL) == Ran(1, b"different\n")
+    assert has_fault(run("same", "cut", "one"), "cut", len(CUT))
+    assert has_fault(run("same", "one", "cut"), "cut", len(CUT))
+    assert has_trouble(run("same", "one", "missing"), "missing")
+    assert has_trouble(run("same", "missing", "cut"), "missing")
+    assert has_trouble(run("same", "-", "-", input=CANONICAL), "-")
+
+
+def test_check(run, folder):
+    """Each file is accepted, or its fault has an offset. In the formats for programs all answers are on standard output."""
+    folder(**{"one": CANONICAL, "cut,:%": CUT})
+    assert has_fault(run("check", "one", "cut,:%"), "cut,:%", len(CUT), b"one: accepted\n")
+    assert run("check", "--format", "text", "one") == run("check", "one") == Ran(0, b"one: accepted\n")
+    assert run("check", "--format", "github", "one") == Ran(0)
+    found = run("check", "--format", "github", "cut,:%", "one")
+    assert found.status == 1 and found.message == b""
+    assert re.fullmatch(rb"::error file=cut%%2C%%3A%%25::cut,:%%25: %d: [ -~]+\n" % len(CUT), found.output)
+    assert has_trouble(run("check", "--format", "json", "one", "missing"), "missing", b'{"file":"one","accepted":true}\n')
+
+
+# Sections of code whose first fault is known (RFC 9669): two instructions, and what follows them. 0xff is no opcode, register 11 doesn't exist,
+# a slot has 8 bytes, and a wide load (0x18) two slots.
+CODE_FAULTS = {
+    "opcode": ("ff00000000000000", 0x10, "Opcode"),
+    "register": ("b70b000000000000", 0x11, "Dst"),
+    "cut": ("9500", 0x10, "Truncated"),
+    "second slot": ("1800000000000000 0100000000000000", 0x18, "Reserved"),
+}
+
+
+def with_code(code, flags=b"\6"):
+    """The canonical file with other code in its section xdp, which is the second one, and at the end of the file."""
+    row = int.from_bytes(CANONICAL[40:48], "little") + 2 * 64
+    made = bytearray(CANONICAL) + code
+    made[row + 8 : row + 9] = flags
+    made[row + 24 : row + 40] = len(CANONICAL).to_bytes(8, "little") + len(code).to_bytes(8, "little")
+    return bytes(made)
+
+
+@pytest.mark.parametrize("fault", CODE_FAULTS.values(), ids=CODE_FAULTS)
+def test_faults_of_code(fault, run, folder):
+    """A file is accepted whatever its code is. The first fault of each section of code is reported, with its offset there."""
+    behind, offset, cause = fault
+    code = bytes.fromhex("b700000002000000 9500000000000000" + behind)
+    folder(**{"one": CANONICAL, "odd": with_code(code), "data": with_code(code, b"\2"), "cut": CUT})
+    place = f"xdp+{offset:#x}: {cause}"
+    assert run("check", "one", "odd", "data") == Ran(1, b"one: accepted\nodd: accepted\ndata: accepted\n", f"odd: {place}\n".encode())
+    rows = [json.loads(it) for it in run("check", "--format", "json", "odd", "one").output.splitlines()]
+    found = {"file": "odd", "section": "xdp", "offset": offset, "text": cause}
+    assert rows == [{"file": "odd", "accepted": True}, found, {"file": "one", "accepted": True}]
+    assert run("check", "--format", "github", "one", "odd") == Ran(1, f"::error file=odd::odd: {place}\n".encode())
+
+
+def test_folders(run, folder):
+    """A folder is all object files in it, by name: what begins with the magic number of ELF. Links in it are left out."""
+    made = folder(b=CANONICAL, text=b"no object", empty=b"")
+    for name in "a/z", "a/y", "c.o", "a.o":
+        path = made / "top" / name
+        path.parent.mkdir(parents=True, exist_ok=True)
+        path.write_bytes(CANONICAL)
+    (made / "top" / "notes").write_bytes(b"\x7fEL")
+    (made / "top" / "link").symlink_to("../b")
+    (made / "top" / "loop").symlink_to("..")
+    found = ["top/a.o", "top/a/y", "top/a/z", "top/c.o"]
+    assert run("check", "top") == Ran(0, "".join(f"{it}: accepted\n" for it in found).encode())
+    assert run("key", "b", "top/a", "b").output.decode().split() == [KEY, "b", KEY, "top/a/y", KEY, "top/a/z", KEY, "b"]
+    (made / "top" / "a" / "y").write_bytes(CANONICAL[:64])
+    assert run("check", "top").status == 1
+    (made / "none").mkdir()
+    assert has_trouble(run("check", "none"), "none") and has_trouble(run("canon", "none"), "none")
+    (made / "top" / os.fsdecode(b"\xff.o")).write_bytes(CANONICAL)
+    other = run("check", "top/a", "top")
+    assert other.status == 2 and other.output.count(b": accepted\n") == 4
+
+
+WORDS = {
+    "no verb": (),
+    "an unknown verb": ("show",),
+    "no file": ("key",),
+    "two files": ("canon", "one", "two"),
+    "an unknown option": ("key", "--raw", "one"),
+    "no output": ("canon", "one", "-o"),
+    "one file": ("same", "one"),
+    "an unknown format": ("check", "--format", "xml", "one"),
+    "an option of another verb": ("key", "--format", "json", "one"),
+}
+
+
+@pytest.mark.parametrize("words", WORDS.values(), ids=WORDS)
+def test_usage(words, run):
+    ran = run(*words)
+    assert ran.status == 2 and ran.output == b"" and ran.message.startswith(b"error: ")
+
+
+def test_help(run):
+    """The help and the version are on standard output. The version is that of the library."""
+    version = re.search(r'BPFCANON_VERSION "(.*)"', (TOP / "capi" / "bpfcanon.h").read_text())[1]
+    assert run("--version") == Ran(0, f"bpfcanon-object {version}\n".encode())
+    for words in (), ("canon",), ("key",), ("same",), ("check",):
+        ran = run(*words, "--help")
+        assert ran.status == 0 and ran.message == b"" and b"Usage: " in ran.output
+
+
+def test_words_that_are_no_text(run):
+    ran = run("key", b"\xff")
+    assert ran.status == 2 and ran.output == b"" and ran.message == b"bpfcanon-object: the arguments aren't text\n"
+
+
+def test_full_output(run, folder):
+    """Output that can't be written is trouble."""
+    folder(one=CANONICAL)
+    with open("/dev/full", "wb") as full:
+        for words in ("key", "one"), ("canon", "one"), ("check", "one"), ("same", "one", "one"):
+            assert run(*words, stdout=full) == Ran(2, b"", b"bpfcanon-object: the output can't be written\n")
+    assert has_trouble(run("canon", "one", "-o", "/dev/full"), "/dev/full")
+
+
+# No line needs that many allocations: a loop that gets here would not end.
+MOST_ALLOCATIONS = 2_000
+REFUSED = {
+    "key": ("key", "one", "cut", "two"),
+    "key --check": ("key", "--check", "keys"),
+    "canon": ("canon", "one"),
+    "canon -o": ("canon", "one", "-o", "made"),
+    "same": ("same", "one", "two"),
+    "check": ("check", "--format", "json", "cut", "top"),
+    "github": ("check", "--format", "github", "cut", "one"),
+    "a wrong word": ("show",),
+    "help": ("--help",),
+}
+OUT_OF_MEMORY = re.compile(rb"bpfcanon-object: (?:[\w/.]+: )?out of memory|error: out of memory")
+
+
+def is_refusal(ran, right):
+    """Whether the command says that it is out of memory, and nothing else that it wouldn't say with ample memory."""
+    messages = [it for it in ran.message.splitlines() if it not in right.message.splitlines()]
+    lines = [it for it in ran.output.splitlines() if it not in right.output.splitlines() and not it.endswith(b": FAILED open or read")]
+    return ran.status == 2 and messages and all(map(OUT_OF_MEMORY.fullmatch, messages)) and not lines
+
+
+@pytest.mark.parametrize("only_one", [True, False], ids=["alone", "all that follow"])
+@pytest.mark.parametrize("words", REFUSED.values(), ids=REFUSED)
+def test_refused_memory(words, only_one, run, refusing, folder):
+    """Whichever allocation is refused, no answer is wrong, and the output isn't a part of a file."""
+    made = folder(one=CANONICAL, two=OTHER, cut=CUT)
+    (made / "keys").write_bytes(run("key", "one", "two").output)
+    (made / "top").mkdir()
+    (made / "top" / "a.o").write_bytes(CANONICAL)
+    right, seen = run(*words), set()
+    for number in range(1, MOST_ALLOCATIONS):
+        reading, writing = os.pipe()
+        last = number if only_one else MOST_ALLOCATIONS
+        settings = {"LD_PRELOAD": refusing, "REFUSE_FROM": str(number), "REFUSE_TO": str(last), "REFUSE_REPORT": str(writing)}
+        ran = run(*words, env=os.environ | settings, pass_fds=[writing])
+        os.close(writing)
+        with os.fdopen(reading, "rb") as reader:
+            was_refused = reader.read(1) != b""
+        assert ran == right or (was_refused and is_refusal(ran, right)), f"allocation {number}: {ran}"
+        assert not (made / "made").exists() or (made / "made").read_bytes() == CANONICAL
+        if not was_refused:
+            break
+        seen.add(ran.message)
+    assert b"bpfcanon-object: out of memory\n" in seen and not list(made.glob("*.tmp"))
+
+
+@functools.lru_cache(maxsize=None)
+def compiled(source, target, *flags):
+    """An object file of a source in testdata."""
+    need("clang")
+    line = ["clang", "-target", target, "-O2", *flags, "-c", TOP / "testdata" / f"{source}.c", "-o", "-"]
+    return subprocess.run(line, check=True, stdout=subprocess.PIPE).stdout
+
+
+@pytest.mark.parametrize("flags", [(), ("-g",)], ids=["plain", "-g"])
+@pytest.mark.parametrize("target", TARGETS)
+@pytest.mark.parametrize("source", SOURCES)
+def test_reference(source, target, flags, run):
+    """The canonical file is the one that the reference writes, it is its own canonical file, and its SHA-256 is the key."""
+    made = compiled(source, target, *flags)
+    right = object_reference.canonical(made)
+    assert run("canon", "-", input=made) == run("canon", "-", input=right) == Ran(0, right)
+    assert run("key", "-", input=made) == Ran(0, f"{hashlib.sha256(right).hexdigest()}  -\n".encode())
+
+
+@pytest.mark.parametrize("source", SOURCES)
+def test_reference_same(source, run, folder):
+    """A file is the same as its canonical file, and differs from the one of the other byte order."""
+    made = compiled(source, "bpfel", "-g")
+    folder(made=made, right=object_reference.canonical(made), other=compiled(source, "bpfeb", "-g"))
+    assert run("same", "made", "right") == Ran(0, b"same\n")
+    assert run("same", "made", "other") == Ran(1, b"different\n")
+
+
+@pytest.mark.parametrize("target", TARGETS)
+def test_reference_faults(target, run, folder):
+    """A file with a byte that is changed, or cut, has the first fault that the reference finds."""
+    made = compiled("packet_filter", target, "-g")
+    changed = [made[:at] + bytes([made[at] ^ 0x55]) + made[at + 1 :] for at in range(0, len(made), 41)]
+    names = {str(number): content for number, content in enumerate([*changed, *(made[:at] for at in range(0, len(made), 199))])}
+    folder(**names)
+    right = []
+    for name, content in names.items():
+        fault = object_reference.first_fault(content)
+        right.append((name, fault is None, fault.offset if fault else None))
+    rows = [json.loads(it) for it in run("check", "--format", "json", *names).output.splitlines()]
+    assert [(it["file"], it["accepted"], it.get("offset")) for it in rows if "section" not in it] == right
