@@ -12,11 +12,18 @@ def find_kit():
     return pathlib.Path(run(["rt", "doc"]).strip()).parent
 
 
+def named_for(crates):
+    """What crates.txt names for some crates and for the crates that these use. Their code may be inlined."""
+    lines = re.findall(r"^(\w+)[^:#\n]*:(.*)$", (TOP / "crates.txt").read_text(), re.MULTILINE)
+    used = {crate: names.split() for crate, names in lines}
+    return set().union(*(named_for(used.get(it, [])) | {it} for it in crates))
+
+
 def crates_in(objects):
-    """The crates of crates.txt, whose code may be inlined, and all that have a symbol in some objects."""
+    """The crates whose code can be in the command and in the library, and all that have a symbol in some objects."""
     symbols = "".join(run(["nm", it]) for it in objects)
     named = re.findall(r"^[ 0-9a-f]{16} \w <?([a-z_0-9]+)::", symbols, re.MULTILINE)
-    return sorted({*named, *re.findall(r"[a-z_0-9]+", re.sub("#.*", "", (TOP / "crates.txt").read_text()))})
+    return sorted({*named, *named_for(["bpfcanon", "bpfcanon_c"])})
 
 
 def third_party(kit, objects):
