@@ -17,6 +17,8 @@ ARM_CFLAGS = CFLAGS.replace("-fcf-protection", "-mbranch-protection=standard")
 DOCUMENTS = pathlib.Path("share", "doc", "bpfcanon")
 AT_TOP = ["CHANGELOG.md", "LICENSE", "PROVED.txt", "SECURITY.md", "THIRD-PARTY"]
 
+# The parts of testdata/README.md on the vectors.
+VECTOR_PARTS = ("## Vectors\n", "## Compiled programs\n", "## Object files\n")
 # The files of testdata/ that the examples of the Go module and its README read.
 GO_EXAMPLES = ["flow_table.c", "flow_table.big.btf", "flow_table.little.btf", "pass.c"]
 
@@ -97,9 +99,9 @@ def stage_source(documents, work):
 def vectors_page():
     """The README of the vectors: the parts of testdata/README.md that aren't about the other files of this tree."""
     page = (TOP / "testdata" / "README.md").read_text()
-    parts = [part for part in re.split("^(?=## )", page, flags=re.MULTILINE) if part.startswith(("## Vectors\n", "## Compiled programs\n"))]
-    if len(parts) != 2:
-        raise Refused("testdata/README.md doesn't have the parts Vectors and Compiled programs")
+    parts = [part for part in re.split("^(?=## )", page, flags=re.MULTILINE) if part.startswith(VECTOR_PARTS)]
+    if len(parts) != len(VECTOR_PARTS):
+        raise Refused(f"testdata/README.md doesn't have these parts: {VECTOR_PARTS}")
     return filled((TOP / "packaging" / "README.vectors").read_text()) + "\n" + "".join(parts)
 
 
@@ -107,7 +109,6 @@ def stage_vectors(documents, work):
     root = work / f"bpfcanon-vectors-{VERSION}"
     copy_files(work / "vectors", "testdata/")
     (work / "vectors" / "testdata").rename(root)
-    (root / "pass.c").unlink()
     (root / "README.md").write_text(vectors_page())
     add_documents(root, {"LICENSE": documents["LICENSE"]})
     return root

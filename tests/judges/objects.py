@@ -1,4 +1,4 @@
-"""The object files that are judged: sources that clang compiles in several ways in both byte orders, and those of cilium/ebpf."""
+"""The object files that are judged: sources that clang compiles in several ways in both byte orders, those of cilium/ebpf, and the vectors."""
 
 from __future__ import annotations
 
@@ -8,7 +8,7 @@ from dataclasses import dataclass
 from pathlib import Path
 from typing import Iterator
 
-from tests import TOP
+from tests import TOP, object_vectors
 from tests.objects.bases import DEBUG, INSTALLED, SOURCES, compile_source
 
 ORDERS = {"little": "bpfel", "big": "bpfeb"}
@@ -49,6 +49,9 @@ def all_made() -> Iterator[Made]:
                 yield Made(TOP / path, order, flags)
             yield from (Made(TOP / path, order, typed[0], it) for it in TOOLS if (order, it) != ("big", "linked"))
     yield from map(Made, sorted(INSTALLED.glob("*.elf")))
+    # cilium/ebpf refuses a part of .BTF.ext without records.
+    accepted = (row.file for row in object_vectors.rows() if row.key and "no_parts" not in row.file)
+    yield from (Made(object_vectors.FOLDER / file) for file in accepted)
 
 
 def named(source: str, order: str = "little") -> Made:

@@ -11,7 +11,7 @@ import zipfile
 
 import pytest
 
-from tests import TOP
+from tests import TOP, object_vectors
 from tests.command import SECONDS
 
 # Where each file is installed, below the prefix, and the file of this tree that it is a copy of.
@@ -40,6 +40,8 @@ TOP_FILES = {"README": 0o644, "install.sh": 0o755}
 TOP_LINKS = ["CHANGELOG.md", "LICENSE", "PROVED.txt", "SECURITY.md", "THIRD-PARTY"]
 VECTORS = ["LICENSE", "README.md", "vectors.tsv", "flow_table.c", "flow_table.big.btf", "flow_table.little.btf"]
 VECTORS += [f"{name}{end}" for name in ("hash_words", "packet_filter") for end in (".c", ".big.bin", ".little.bin")]
+VECTORS += ["objects", "pass.c", "objects/objects.tsv", *(f"objects/{name}.c" for name in ("calls", "core", "data", "externs", "maps"))]
+VECTORS += [f"objects/{row.file}" for row in object_vectors.rows()]
 # The crates of the kit whose code can be in the program or in the library: those that crates.txt names, and strsim, which clap uses.
 CRATES = ["arrayvec", "bumpalo", "byteorder", "clap", "indexmap", "itoa", "memchr", "simdutf8", "strsim", "thiserror"]
 # What each package depends on, besides the versions of the C library, which dpkg-shlibdeps finds.
@@ -156,13 +158,9 @@ def test_others(release):
         assert "](../" not in page and "@" not in page.replace("bpfcanon@v", ""), f"README.md of {name}: it names another tree"
         if "-vectors-" in name:
             assert sorted(filter(None, members)) == sorted(VECTORS), f"{name}: it has {sorted(members)}"
-            check_copies(name, read, release.tree / "testdata", sorted({*VECTORS} - {"LICENSE", "README.md"}))
-            is_right = (
-                page.startswith("# Test vectors")
-                and all(it.partition(".")[0] in page for it in VECTORS if it != "README.md")
-                and "pass.c" not in page
-            )
-            assert is_right, f"README.md of {name}: it doesn't name its files"
+            check_copies(name, read, release.tree / "testdata", sorted({*VECTORS} - {"LICENSE", "README.md", "objects"}))
+            named = {it.partition("/")[0].partition(".")[0] for it in VECTORS} - {"README", "pass"}
+            assert page.startswith("# Test vectors") and all(it in page for it in named), f"README.md of {name}: it doesn't name its files"
 
 
 def test_wheels(release):

@@ -1,0 +1,105 @@
+"""Checks testdata/objects by itself, and that the reference and the built command agree with each of its rows."""
+
+from __future__ import annotations
+
+import functools
+import hashlib
+import json
+import re
+import subprocess
+from pathlib import Path
+
+import pytest
+
+from tests import TOP, object_vectors
+from tests.command import SECONDS
+from tests.needs import need
+from tests.object_vectors import FOLDER, Fault, Row
+from tests.reference import object_reference
+from tools.objects import make
+
+ROWS = object_vectors.rows()
+ACCEPTED, REFUSED = [it for it in ROWS if it.key], [it for it in ROWS if it.fault]
+LARGEST = 10_000
+each_row = pytest.mark.parametrize("row", ROWS, ids=[it.file for it in ROWS])
+
+
+def causes_of_page() -> set[str]:
+    """The causes of the table of refused files. Some occur in more than one of its rows."""
+    part = (TOP / "docs/OBJECTS.md").read_text().partition("\n## Refused files\n")[2].partition("\n#")[0]
+    rows = re.findall(r"^\| ((?:\w+, )*\w+) \|", part, re.MULTILINE)
+    return {cause for row in rows for cause in row.split(", ")}
+
+
+def test_table() -> None:
+    """Each file has a row, no two have the same bytes, and each cause has a file."""
+    assert sorted(it.file for it in ROWS) == sorted(it.name for it in FOLDER.glob("*.o"))
+    assert len({it.content for it in ROWS}) == len(ROWS)
+    assert len(ACCEPTED) >= 50 and max(it.stat().st_size for it in FOLDER.glob("*.o")) < LARGEST
+    assert {it.fault.cause.partition("(")[0] for it in REFUSED if it.fault} == causes_of_page()
+    for rows in ACCEPTED, REFUSED:
+        assert all(len([it for it in rows if f".{order}." in it.file]) >= len(rows) // 2 for order in make.ORDERS)
+
+
+def test_debugging_information() -> None:
+    """DWARF is no part of a canonical file."""
+    keys = {it.file: it.key for it in ACCEPTED}
+    pairs = [(key, keys[file.replace("debug", "typed")]) for file, key in keys.items() if file.endswith(".debug.o")]
+    assert pairs and all(one == other for one, other in pairs)
+
+
+@functools.lru_cache(maxsize=None)
+def made() -> dict[str, make.Vector]:
+    need("clang", "llvm-strip")
+    said = subprocess.run(["clang", "--version"], capture_output=True, text=True, check=True).stdout
+    if not said.startswith("Debian clang version 14."):
+        pytest.skip("another clang makes other objects")
+    return {it.name: it for it in make.vectors()}
+
+
+@each_row
+def test_made(row: Row) -> None:
+    """The file and its row are what the script makes."""
+    vector = made()[row.file]
+    assert vector.content == (FOLDER / row.file).read_bytes()
+    assert vector.line in object_vectors.TABLE.read_text()
+
+
+def test_made_table() -> None:
+    assert make.table(list(made().values())) == object_vectors.TABLE.read_text()
+
+
+@each_row
+def test_reference(row: Row) -> None:
+    try:
+        assert row.key == hashlib.sha256(object_reference.canonical(row.content)).hexdigest()
+    except object_reference.Refused as refused:
+        assert row.fault == Fault(refused.fault.offset, refused.fault.cause)
+
+
+@functools.lru_cache(maxsize=None)
+def sentences() -> dict[str, str]:
+    """What the command says of each cause, by the sources."""
+    text = "".join((TOP / "crates" / crate / "src/fault.rt").read_text() for crate in ("bpf_elf", "bpf_object"))
+    return {cause: sentence for sentence, cause in re.findall(r'#\[error\("([^"{]+)"\)\]\n    (\w+)', text)}
+
+
+@each_row
+def test_program(row: Row, object_program: Path, tmp_path: Path) -> None:
+    path = tmp_path / row.file
+    path.write_bytes((FOLDER / row.file).read_bytes())
+    if row.length:
+        with path.open("r+b") as file:
+            file.truncate(row.length)
+    check, key = (
+        subprocess.run([object_program, *words, row.file], capture_output=True, cwd=tmp_path, timeout=SECONDS, check=False)
+        for words in (["check", "--format", "json"], ["key"])
+    )
+    found = [it for it in map(json.loads, check.stdout.splitlines()) if "section" not in it]
+    if row.fault:
+        text = sentences().get(row.fault.cause, row.fault.cause)
+        assert found == [{"file": row.file, "accepted": False, "offset": row.fault.offset, "text": text}]
+        assert (key.returncode, key.stdout) == (1, b"")
+    else:
+        assert found == [{"file": row.file, "accepted": True}]
+        assert (key.returncode, key.stdout) == (0, f"{row.key}  {row.file}\n".encode())

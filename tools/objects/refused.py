@@ -1,0 +1,239 @@
+"""A change for each cause of docs/OBJECTS.md, which gives a refused file.
+
+The offset of a fault is that of a field that the change names, or stands here: the page says where each cause is reported.
+"""
+
+from __future__ import annotations
+
+import struct
+from typing import Callable, NamedTuple, Optional
+
+from tests.reference.object_elf import ELF_SIZE, MAX_FILE, MAX_NAME, SHF_COMPRESSED, SHT_PROGBITS, SHT_STRTAB
+from tests.reference.object_types import MAX_TYPES
+from tools.objects.edited import Edited
+
+Change = Callable[[Edited], int]
+
+HALF = MAX_FILE // 2 + 1
+XDP, RELOCATIONS, TYPES, EXTENSION = b"xdp", b".relraw_tp", b".BTF", b".BTF.ext"
+
+
+def byte(offset: int, value: int) -> Change:
+    return lambda it: it.put(offset, 1, value)
+
+
+def header(field: str, value: int) -> Change:
+    return lambda it: it.header(field, value)
+
+
+def row(name: bytes, field: str, value: int) -> Change:
+    return lambda it: it.row(name, field, value)
+
+
+def types(offset: int, size: int, value: int) -> Change:
+    """Sets a field of the header of .BTF."""
+    return lambda it: it.put(it.content(TYPES) + offset, size, value)
+
+
+def extension(offset: int, size: int, value: int) -> Change:
+    """Sets a field of the header of .BTF.ext."""
+    return lambda it: it.put(it.content(EXTENSION) + offset, size, value)
+
+
+def cut(it: Edited) -> int:
+    del it.data[ELF_SIZE - 1 :]
+    return len(it.data)
+
+
+def first_section(it: Edited) -> int:
+    it.put(it.elf.place(1) - 1, 1, 1)
+    return it.elf.place(0)
+
+
+def long_name(it: Edited) -> int:
+    names = it.bytes_of(b".strtab")
+    it.replace(b".strtab", names + b"n" * (MAX_NAME + 1) + b"\0")
+    return it.row(XDP, "name", len(names))
+
+
+def compressed(it: Edited) -> int:
+    it.row(XDP, "flags", SHF_COMPRESSED)
+    return it.row(XDP, "type", SHT_PROGBITS)
+
+
+def two_of_types(it: Edited) -> int:
+    """The license becomes a .BTF before the other one."""
+    it.row(b"license", "flags", 0)
+    it.row(b"license", "name", it.elf.rows[it.section(TYPES)].name)
+    return it.row(TYPES, "type", SHT_PROGBITS)
+
+
+def no_symbols(it: Edited) -> int:
+    it.row(b".symtab", "name", it.elf.rows[it.section(b".strtab")].name)
+    it.row(b".symtab", "type", SHT_STRTAB)
+    return 40
+
+
+def first_symbol(it: Edited) -> int:
+    it.symbol(0, "size", 1)
+    return it.content(b".symtab")
+
+
+def wrapped_place(it: Edited) -> int:
+    """Value and size of a symbol whose sum is 0 in 64 bits."""
+    it.symbol(it.last_symbol, "size", 8)
+    return it.symbol(it.last_symbol, "value", (1 << 64) - 8)
+
+
+def local_relocation(it: Edited) -> int:
+    """A relocation to a local symbol, which is in a section that isn't kept."""
+    number = next(at for at, symbol in enumerate(it.elf.symbols) if at and symbol.is_local)
+    it.symbol(number, "shndx", it.section(TYPES))
+    return it.relocation(RELOCATIONS, "info", number << 32 | 1)
+
+
+def other_order(it: Edited) -> int:
+    """The magic number, and each 32-bit word of the header and of the types."""
+    content, start = it.bytes_of(TYPES), it.content(TYPES)
+    (length,) = struct.unpack_from(f"{it.elf.mark}I", content, 12)
+    words = struct.unpack_from(f"<{5 + length // 4}I", content, 4)
+    changed = content[1::-1] + content[2:4] + struct.pack(f">{len(words)}I", *words)
+    it.data[start : start + len(changed)] = changed
+    return start
+
+
+def strings_first(it: Edited) -> int:
+    """The strings of .BTF before its types."""
+    content = it.bytes_of(TYPES)
+    (length,) = struct.unpack_from(f"{it.elf.mark}I", content, 12)
+    strings = content[24 + length :] + bytes(-len(content) % 4)
+    start = len(it.data)
+    it.replace(TYPES, content[:24] + strings + content[24 : 24 + length])
+    it.put(start + 16, 4, 0)
+    it.put(start + 20, 4, len(strings))
+    return it.put(start + 8, 4, len(strings))
+
+
+def empty_name(it: Edited) -> int:
+    """A type without a name whose name_off isn't 0."""
+    offset = it.add_type_string(b"")
+    return it.put(it.first_type("PTR")[0], 4, offset)
+
+
+def reserved_name(it: Edited) -> int:
+    offset = it.add_type_string(b".symtab")
+    return it.put(it.first_type("DATASEC")[0], 4, offset)
+
+
+def kind_flag(it: Edited) -> int:
+    place, words = it.first_type("STRUCT")
+    return it.put(place + 4, 4, words[1] | 1 << 31)
+
+
+def no_types(it: Edited) -> int:
+    it.row(TYPES, "name", it.elf.rows[it.section(XDP)].name)
+    return it.row(EXTENSION, "name", it.elf.rows[it.section(EXTENSION)].name)
+
+
+def short_extension(it: Edited) -> int:
+    it.row(EXTENSION, "size", 31)
+    return it.content(EXTENSION)
+
+
+def function_without_line(it: Edited) -> int:
+    """The line of a function becomes that of its second instruction."""
+    it.put(it.group(1) + 8, 4, 8)
+    return it.group(0)
+
+
+def lines_elsewhere(it: Edited) -> int:
+    """The lines of the first section become those of another one."""
+    it.put(it.group(1), 4, 0)
+    return it.group(0)
+
+
+def result_too_large(it: Edited) -> int:
+    """Two sections of the same bytes, which the canonical file would have twice."""
+    for name in b"license", b".maps":
+        it.row(name, "offset", 0)
+        it.row(name, "size", HALF)
+    return 0
+
+
+class Refused(NamedTuple):
+    """A refused file: its cause, what is changed, the object that it is made from, and its length if zeros follow."""
+
+    cause: str
+    change: Change
+    base: str = "core"
+    length: Optional[int] = None
+
+
+# By the name of the file, in the sequence of the page. The smaller object is enough for what each file has.
+REFUSED = {
+    "FileTooLarge": Refused("FileTooLarge", lambda it: MAX_FILE, "pass", MAX_FILE + 1),
+    "FileCut": Refused("FileCut", cut, "pass"),
+    "Magic": Refused("Magic", byte(0, 0x7E), "pass"),
+    "Class": Refused("Class", byte(4, 1), "pass"),
+    "ByteOrder": Refused("ByteOrder", byte(5, 3), "pass"),
+    "IdentVersion": Refused("IdentVersion", byte(6, 0), "pass"),
+    "FileType": Refused("FileType", header("type", 2), "pass"),
+    "Machine": Refused("Machine", header("machine", 62), "pass"),
+    "FileVersion": Refused("FileVersion", header("version", 2), "pass"),
+    "HeaderSize": Refused("HeaderSize", header("ehsize", 52), "pass"),
+    "Segments": Refused("Segments", header("phnum", 1), "pass"),
+    "SectionHeaderSize": Refused("SectionHeaderSize", header("shentsize", 40), "pass"),
+    "SectionCount": Refused("SectionCount", header("shnum", 0), "pass"),
+    "SectionCount.reserved": Refused("SectionCount", header("shnum", 0xFF00), "pass"),
+    "SectionTable": Refused("SectionTable", lambda it: it.header("shoff", it.elf.header.shoff + 1), "pass"),
+    "SectionTable.wraps": Refused("SectionTable", header("shoff", (1 << 64) - 64), "pass"),
+    "NamesIndex": Refused("NamesIndex", lambda it: it.header("shstrndx", it.elf.header.shnum), "pass"),
+    "FirstSection": Refused("FirstSection", first_section, "pass"),
+    "NamesTable": Refused("NamesTable", header("shstrndx", 1), "pass"),
+    "SectionCut": Refused("SectionCut", lambda it: it.row(XDP, "offset", len(it.data) - 15), "pass"),
+    "SectionCut.wraps": Refused("SectionCut", row(XDP, "offset", (1 << 64) - 8), "pass"),
+    "SectionName": Refused("SectionName", lambda it: it.row(XDP, "name", len(it.bytes_of(b".strtab"))), "pass"),
+    "SectionName.long": Refused("SectionName", long_name, "pass"),
+    "SectionKind": Refused("SectionKind", row(XDP, "type", 7), "pass"),
+    "SectionKind.compressed": Refused("SectionKind", compressed, "pass"),
+    "SectionTwice": Refused("SectionTwice", two_of_types),
+    "RelocationTarget": Refused("RelocationTarget", row(RELOCATIONS, "info", 1)),
+    "NoSymbols": Refused("NoSymbols", no_symbols, "pass"),
+    "SymbolTableSize": Refused("SymbolTableSize", row(b".symtab", "size", 25), "pass"),
+    "SymbolEntrySize": Refused("SymbolEntrySize", row(b".symtab", "entsize", 16), "pass"),
+    "SymbolNames": Refused("SymbolNames", row(b".symtab", "link", 1), "pass"),
+    "FirstSymbol": Refused("FirstSymbol", first_symbol, "pass"),
+    "SymbolName": Refused("SymbolName", lambda it: it.symbol(1, "name", len(it.bytes_of(b".strtab"))), "pass"),
+    "SymbolSection": Refused("SymbolSection", lambda it: it.symbol(1, "shndx", it.elf.header.shnum), "pass"),
+    "SymbolSection.dropped": Refused("SymbolSection", lambda it: it.symbol(it.last_symbol, "shndx", it.section(TYPES)), "pass"),
+    "SymbolPlace": Refused("SymbolPlace", lambda it: it.symbol(it.last_symbol, "value", 1), "pass"),
+    "SymbolPlace.wraps": Refused("SymbolPlace", wrapped_place, "pass"),
+    "RelocationTableSize": Refused("RelocationTableSize", row(RELOCATIONS, "size", 15)),
+    "RelocationEntrySize": Refused("RelocationEntrySize", row(RELOCATIONS, "entsize", 24)),
+    "RelocationSymbols": Refused("RelocationSymbols", row(RELOCATIONS, "link", 0)),
+    "RelocationSymbol": Refused("RelocationSymbol", lambda it: it.relocation(RELOCATIONS, "info", len(it.elf.symbols) << 32 | 1)),
+    "RelocationSymbol.dropped": Refused("RelocationSymbol", local_relocation),
+    "TypesTooLarge": Refused("TypesTooLarge", row(TYPES, "size", MAX_TYPES + 1), "pass", MAX_TYPES + 4096),
+    "Types": Refused("Types(Version)", types(2, 1, 2), "pass"),
+    "TypesOrder": Refused("TypesOrder", other_order, "pass"),
+    "TypesLayout": Refused("TypesLayout", strings_first, "pass"),
+    "TypesName": Refused("TypesName", empty_name),
+    "TypesSection": Refused("TypesSection", reserved_name),
+    "TypesFlag": Refused("TypesFlag", kind_flag),
+    "ExtensionWithoutTypes": Refused("ExtensionWithoutTypes", no_types, "pass"),
+    "ExtensionCut": Refused("ExtensionCut", short_extension, "pass"),
+    "ExtensionMagic": Refused("ExtensionMagic", extension(0, 2, 0x9FEB), "pass"),
+    "ExtensionVersion": Refused("ExtensionVersion", extension(2, 1, 0), "pass"),
+    "ExtensionFlags": Refused("ExtensionFlags", extension(3, 1, 1), "pass"),
+    "ExtensionHeaderSize": Refused("ExtensionHeaderSize", extension(4, 4, 24), "pass"),
+    "ExtensionPart": Refused("ExtensionPart", extension(8, 4, 2), "pass"),
+    "ExtensionPart.wraps": Refused("ExtensionPart", extension(24, 4, 0xFFFFFFFC), "pass"),
+    "ExtensionRecordSize": Refused("ExtensionRecordSize", lambda it: it.put(it.group(0) - 4, 4, 12), "pass"),
+    "ExtensionGroup": Refused("ExtensionGroup", lambda it: it.put(it.group(0) + 4, 4, 0) - 4, "pass"),
+    "ExtensionGroup.cut": Refused("ExtensionGroup", lambda it: it.put(it.group(0) + 4, 4, 0x20000001) - 4, "pass"),
+    "ExtensionString": Refused("ExtensionString", lambda it: it.put(it.group(0), 4, 0x10000), "pass"),
+    "ExtensionString.access": Refused("ExtensionString", lambda it: it.put(it.group(2) + 16, 4, 0x10000)),
+    "ExtensionLines": Refused("ExtensionLines", function_without_line, "pass"),
+    "ExtensionLines.sections": Refused("ExtensionLines", lines_elsewhere),
+    "ResultTooLarge": Refused("ResultTooLarge", result_too_large, length=HALF),
+}
