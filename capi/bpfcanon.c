@@ -84,6 +84,27 @@ bpfcanon_answer bpfcanon_insn_front(uint32_t order, uint32_t to, const uint8_t *
 	return bpfcanon_proved_insn_front(order, to, input(bytes, len), len, output(out, room), room);
 }
 
+bpfcanon_answer bpfcanon_object_canon(const uint8_t *bytes, size_t len, uint8_t *out, size_t room)
+{
+	return bpfcanon_proved_object_canon(input(bytes, len), len, output(out, room), room);
+}
+
+bpfcanon_answer bpfcanon_object_same(const uint8_t *first, size_t first_len, const uint8_t *second,
+                                     size_t second_len)
+{
+	return bpfcanon_proved_object_same(input(first, first_len), first_len, input(second, second_len), second_len);
+}
+
+bpfcanon_answer bpfcanon_object_key(const uint8_t *bytes, size_t len, uint8_t *out, size_t room)
+{
+	return bpfcanon_proved_object_key(input(bytes, len), len, output(out, room), room);
+}
+
+bpfcanon_answer bpfcanon_object_check(const uint8_t *bytes, size_t len)
+{
+	return bpfcanon_proved_object_check(input(bytes, len), len);
+}
+
 /* --- Records --- */
 
 /* crates/bpfcanon_c declares the same records, and its lengths have 64 bits. */
@@ -162,7 +183,7 @@ bpfcanon_answer bpfcanon_btf_decode(const uint8_t *bytes, size_t len, bpfcanon_b
 
 /* --- Calls that allocate --- */
 
-/* A call that writes, in a shape that fits all five, with what finds a fault and what it is given besides its output. */
+/* A call that writes, in a shape that fits all six, with what finds a fault and what it is given besides its output. */
 struct request {
 	bpfcanon_answer (*write)(const struct request *request, uint8_t *out, size_t room);
 	bpfcanon_answer (*check)(const struct request *request);
@@ -195,6 +216,11 @@ static bpfcanon_answer write_listed(const struct request *request, uint8_t *out,
 static bpfcanon_answer write_types(const struct request *request, uint8_t *out, size_t room)
 {
 	return bpfcanon_proved_btf_show(request->bytes, request->len, out, room);
+}
+
+static bpfcanon_answer write_object(const struct request *request, uint8_t *out, size_t room)
+{
+	return bpfcanon_proved_object_canon(request->bytes, request->len, out, room);
 }
 
 /* Takes the memory that the call needs without its block. */
@@ -295,6 +321,17 @@ bpfcanon_answer bpfcanon_btf_show_new(const uint8_t *bytes, size_t len, char **o
 
 	*out = (char *)block;
 	return answer;
+}
+
+/*
+ * A canonical file may be longer than its original, since names don't share bytes in it and each section is followed by up to 7 zeros. It is
+ * twice as long only if there is little else in it.
+ */
+bpfcanon_answer bpfcanon_object_canon_new(const uint8_t *bytes, size_t len, uint8_t **out)
+{
+	const struct request request = { write_object, without_room, 0, 0, input(bytes, len), len };
+
+	return write_new(&request, 2, out);
 }
 
 /* A block for a number of records, at least for one, or NULL. */
@@ -452,6 +489,71 @@ static const struct meaning btf_causes[] = {
 	  "tagged type" },
 };
 
+static const struct meaning object_causes[] = {
+	/* from BPFCANON_OBJECT_FILE_TOO_LARGE on */
+	{ "FileTooLarge", "the file is longer than 64 MiB" },
+	{ "FileCut", "the file is shorter than an ELF header" },
+	{ "Magic", "the file doesn't begin with the magic number of ELF" },
+	{ "Class", "the file isn't a 64-bit ELF file" },
+	{ "ByteOrder", "the file states no byte order" },
+	{ "IdentVersion", "EI_VERSION isn't 1" },
+	{ "FileType", "the file isn't relocatable" },
+	{ "Machine", "the file isn't for BPF" },
+	{ "FileVersion", "e_version isn't 1" },
+	{ "HeaderSize", "e_ehsize isn't 64" },
+	{ "Segments", "there are program headers" },
+	{ "SectionHeaderSize", "e_shentsize isn't 64" },
+	{ "SectionCount", "the number of sections is 0, or 0xff00 or more" },
+	{ "SectionTable", "the section header table isn't inside the file" },
+	{ "NamesIndex", "e_shstrndx isn't the index of a section" },
+	{ "FirstSection", "the first section header isn't zero" },
+	{ "NamesTable", "the names of sections aren't in a string table" },
+	{ "SectionCut", "the section extends past the end of the file" },
+	{ "SectionName", "the section's name is outside the names, or longer than 1,024 bytes" },
+	{ "SectionKind", "no section of a BPF object has this type, name and flags" },
+	{ "SectionTwice", "there are two sections of a kind of which a file has one" },
+	{ "RelocationTarget",
+	  "the table of relocations isn't named after the section that it is for" },
+	{ "NoSymbols", "there is no symbol table" },
+	{ "SymbolTableSize", "the size of the symbol table isn't that of one or more symbols" },
+	{ "SymbolEntrySize", "sh_entsize of the symbol table isn't 24" },
+	{ "SymbolNames", "the names of symbols aren't in a string table" },
+	{ "FirstSymbol", "the first symbol isn't zero" },
+	{ "SymbolName", "the symbol's name is outside the names of symbols" },
+	{ "SymbolSection",
+	  "the symbol is in no section, or isn't local and in a section that loaders "
+	  "don't see" },
+	{ "SymbolPlace", "the symbol extends past the end of its section" },
+	{ "RelocationTableSize", "the size of the table of relocations isn't a multiple of 16" },
+	{ "RelocationEntrySize", "sh_entsize of the table of relocations isn't 16" },
+	{ "RelocationSymbols", "sh_link of the table of relocations isn't the symbol table" },
+	{ "RelocationSymbol",
+	  "the relocation names no symbol, or one that is in no section of code or data" },
+	{ "TypesTooLarge", ".BTF has more than 15,728,640 bytes" },
+	{ "TypesOrder", "the byte order of .BTF isn't that of the file" },
+	{ "TypesLayout", "type_off of .BTF isn't 0" },
+	{ "TypesName", "a name_off of .BTF that isn't 0 leads to an empty string" },
+	{ "TypesSection", "a DATASEC has a reserved name" },
+	{ "TypesFlag", "the kind_flag of a struct or union without bit-fields isn't 0" },
+	{ "ExtensionWithoutTypes", "there is a .BTF.ext, and no .BTF" },
+	{ "ExtensionCut", ".BTF.ext has fewer than 32 bytes" },
+	{ "ExtensionMagic",
+	  ".BTF.ext doesn't begin with its magic number in the byte order of the file" },
+	{ "ExtensionVersion", "the version of .BTF.ext isn't 1" },
+	{ "ExtensionFlags", "the flags of .BTF.ext aren't 0" },
+	{ "ExtensionHeaderSize", "hdr_len of .BTF.ext is under 32, or not less than the section" },
+	{ "ExtensionPart",
+	  "a part of .BTF.ext isn't inside the section, or not aligned to 4 bytes" },
+	{ "ExtensionRecordSize",
+	  "the records of a part of .BTF.ext don't have the size of the part" },
+	{ "ExtensionGroup", "a group of records extends past the end of its part, or is empty" },
+	{ "ExtensionString",
+	  "a string of .BTF.ext isn't inside the strings of .BTF, or no section can have "
+	  "this name" },
+	{ "ExtensionLines", "functions and source lines don't belong to one another" },
+	{ "ResultTooLarge", "the canonical file, or its .BTF, is larger than a file may be" },
+};
+
 static const struct meaning no_meaning = { NULL, NULL };
 
 #define MEANING(table, number) \
@@ -495,4 +597,21 @@ const char *bpfcanon_btf_cause_name(uint32_t cause)
 const char *bpfcanon_btf_cause_text(uint32_t cause)
 {
 	return MEANING(btf_causes, cause)->text;
+}
+
+/* A cause of an object file, or of .BTF in it. */
+static const struct meaning *object_meaning(uint32_t cause)
+{
+	return cause <= BPFCANON_BTF_CAUSES ? MEANING(btf_causes, cause)
+	                                    : MEANING(object_causes, cause - BPFCANON_OBJECT_FILE_TOO_LARGE);
+}
+
+const char *bpfcanon_object_cause_name(uint32_t cause)
+{
+	return object_meaning(cause)->name;
+}
+
+const char *bpfcanon_object_cause_text(uint32_t cause)
+{
+	return object_meaning(cause)->text;
 }

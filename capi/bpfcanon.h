@@ -1,6 +1,7 @@
 /*
- * bpfcanon: canonical bytes of BPF instructions (RFC 9669) and of BTF (Linux
- * Documentation/bpf/btf.rst), their listings and comparison. The manual is bpfcanon(3).
+ * bpfcanon: canonical bytes of BPF instructions (RFC 9669), of BTF (Linux
+ * Documentation/bpf/btf.rst) and of BPF object files, listings and comparison. The manual is
+ * bpfcanon(3).
  *
  * What is proved. Each call under "Calls on the caller's memory" is a few lines of C (bpfcanon.c)
  * around a call that is written in Rattle and proved to meet its contract (crates/bpfcanon_c). The
@@ -24,7 +25,8 @@
  * inputs, and a thread may free a block that another one got.
  *
  * Limits. No call limits the length of instructions or of a listing: the limits of the command
- * bpfcanon(1) are its own. BTF has the limits of its format, see BPFCANON_BTF_MAX.
+ * bpfcanon(1) are its own. BTF has the limits of its format, see BPFCANON_BTF_MAX, and object files
+ * have BPFCANON_OBJECT_MAX.
  *
  * All lengths, offsets and room are in bytes, except that arrays of records have their room, and
  * what was written or is needed, in records. An offset counts from the first byte of its input.
@@ -64,6 +66,12 @@ extern "C" {
 
 /* The longest valid BTF: a 4,096-byte header, 32 MiB of types, 16 MiB of strings. */
 #define BPFCANON_BTF_MAX 50335744
+
+/* The longest object file that is accepted, and the longest canonical one: 64 MiB. */
+#define BPFCANON_OBJECT_MAX 67108864
+
+/* The length of the key of an object file, a SHA-256. */
+#define BPFCANON_KEY_SIZE 32
 
 /* A byte order. Instructions don't state their own; BTF does. Little-endian is canonical. */
 enum bpfcanon_order {
@@ -157,6 +165,66 @@ enum bpfcanon_btf_cause {
 };
 #define BPFCANON_BTF_CAUSES 32
 
+/*
+ * The causes of faults of object files, from 101 to BPFCANON_OBJECT_CAUSES. If .BTF has a fault by
+ * itself, `cause` is that of enum bpfcanon_btf_cause, whose numbers are less than 101.
+ */
+enum bpfcanon_object_cause {
+	BPFCANON_OBJECT_FILE_TOO_LARGE = 101,
+	BPFCANON_OBJECT_FILE_CUT = 102,
+	BPFCANON_OBJECT_MAGIC = 103,
+	BPFCANON_OBJECT_CLASS = 104,
+	BPFCANON_OBJECT_BYTE_ORDER = 105,
+	BPFCANON_OBJECT_IDENT_VERSION = 106,
+	BPFCANON_OBJECT_FILE_TYPE = 107,
+	BPFCANON_OBJECT_MACHINE = 108,
+	BPFCANON_OBJECT_FILE_VERSION = 109,
+	BPFCANON_OBJECT_HEADER_SIZE = 110,
+	BPFCANON_OBJECT_SEGMENTS = 111,
+	BPFCANON_OBJECT_SECTION_HEADER_SIZE = 112,
+	BPFCANON_OBJECT_SECTION_COUNT = 113,
+	BPFCANON_OBJECT_SECTION_TABLE = 114,
+	BPFCANON_OBJECT_NAMES_INDEX = 115,
+	BPFCANON_OBJECT_FIRST_SECTION = 116,
+	BPFCANON_OBJECT_NAMES_TABLE = 117,
+	BPFCANON_OBJECT_SECTION_CUT = 118,
+	BPFCANON_OBJECT_SECTION_NAME = 119,
+	BPFCANON_OBJECT_SECTION_KIND = 120,
+	BPFCANON_OBJECT_SECTION_TWICE = 121,
+	BPFCANON_OBJECT_RELOCATION_TARGET = 122,
+	BPFCANON_OBJECT_NO_SYMBOLS = 123,
+	BPFCANON_OBJECT_SYMBOL_TABLE_SIZE = 124,
+	BPFCANON_OBJECT_SYMBOL_ENTRY_SIZE = 125,
+	BPFCANON_OBJECT_SYMBOL_NAMES = 126,
+	BPFCANON_OBJECT_FIRST_SYMBOL = 127,
+	BPFCANON_OBJECT_SYMBOL_NAME = 128,
+	BPFCANON_OBJECT_SYMBOL_SECTION = 129,
+	BPFCANON_OBJECT_SYMBOL_PLACE = 130,
+	BPFCANON_OBJECT_RELOCATION_TABLE_SIZE = 131,
+	BPFCANON_OBJECT_RELOCATION_ENTRY_SIZE = 132,
+	BPFCANON_OBJECT_RELOCATION_SYMBOLS = 133,
+	BPFCANON_OBJECT_RELOCATION_SYMBOL = 134,
+	BPFCANON_OBJECT_TYPES_TOO_LARGE = 135,
+	BPFCANON_OBJECT_TYPES_ORDER = 136,
+	BPFCANON_OBJECT_TYPES_LAYOUT = 137,
+	BPFCANON_OBJECT_TYPES_NAME = 138,
+	BPFCANON_OBJECT_TYPES_SECTION = 139,
+	BPFCANON_OBJECT_TYPES_FLAG = 140,
+	BPFCANON_OBJECT_EXTENSION_WITHOUT_TYPES = 141,
+	BPFCANON_OBJECT_EXTENSION_CUT = 142,
+	BPFCANON_OBJECT_EXTENSION_MAGIC = 143,
+	BPFCANON_OBJECT_EXTENSION_VERSION = 144,
+	BPFCANON_OBJECT_EXTENSION_FLAGS = 145,
+	BPFCANON_OBJECT_EXTENSION_HEADER_SIZE = 146,
+	BPFCANON_OBJECT_EXTENSION_PART = 147,
+	BPFCANON_OBJECT_EXTENSION_RECORD_SIZE = 148,
+	BPFCANON_OBJECT_EXTENSION_GROUP = 149,
+	BPFCANON_OBJECT_EXTENSION_STRING = 150,
+	BPFCANON_OBJECT_EXTENSION_LINES = 151,
+	BPFCANON_OBJECT_RESULT_TOO_LARGE = 152
+};
+#define BPFCANON_OBJECT_CAUSES 152
+
 /* Conformance groups (RFC 9669 section 2.4), as bits of a mask. */
 enum bpfcanon_group {
 	BPFCANON_BASE32 = 1,
@@ -175,8 +243,8 @@ enum bpfcanon_group {
  */
 typedef struct bpfcanon_answer {
 	uint32_t status; /* enum bpfcanon_status */
-	uint32_t cause;  /* for a fault: enum bpfcanon_insn_cause, _line_cause or _btf_cause */
-	uint64_t pos;    /* the offset of a fault of instructions or of BTF, or the index of a record */
+	uint32_t cause;  /* for a fault: enum bpfcanon_insn_cause, _line_cause, _btf_cause, _object_cause */
+	uint64_t pos;    /* the offset of a fault, or the index of a record */
 	uint64_t line;   /* the line of a fault of a listing, from 1 */
 	size_t read;     /* bpfcanon_insn_front: the length of the complete instructions */
 	size_t written;  /* for a call that writes: the length of the output */
@@ -523,6 +591,51 @@ bpfcanon_answer bpfcanon_btf_decode(const uint8_t *bytes, size_t len, bpfcanon_b
                                     size_t types_room, bpfcanon_btf_item *items,
                                     size_t items_room);
 
+/*
+ * Writes the canonical file of a BPF object file (docs/OBJECTS.md): an object file that loaders read
+ * like the original, except for source lines, and whose bytes depend only on the code, data,
+ * relocations, symbols, types, functions and CO-RE relocations. Sets `written`. It may be longer
+ * than the original, but not than BPFCANON_OBJECT_MAX.
+ *
+ * These four calls hold no file, no path and no global state. So a loader can pass the buffer that
+ * it then loads, for example by bpf_object__open_mem of libbpf, and no one can exchange a file
+ * between the check and the load. Offsets of faults count from the first byte of the object file,
+ * also those of .BTF in it.
+ *
+ * Canonical files were compared with what libbpf 1.1, cilium/ebpf 0.9, the kernel, LLVM, binutils,
+ * bpftool and pyelftools say of the originals (tests/judges in the repository). Of other loaders
+ * nothing is known.
+ *
+ * Statuses: BPFCANON_DONE, BPFCANON_FAULT, BPFCANON_MEMORY, BPFCANON_ROOM.
+ */
+bpfcanon_answer bpfcanon_object_canon(const uint8_t *bytes, size_t len, uint8_t *out, size_t room);
+
+/*
+ * Compares two object files: BPFCANON_DONE if they hold the same parts, that is, if their canonical
+ * files are equal, and BPFCANON_DIFFERENT if they don't.
+ *
+ * Statuses: BPFCANON_DONE, BPFCANON_DIFFERENT, BPFCANON_FAULT, BPFCANON_FAULT_SECOND,
+ * BPFCANON_MEMORY.
+ */
+bpfcanon_answer bpfcanon_object_same(const uint8_t *first, size_t first_len, const uint8_t *second,
+                                     size_t second_len);
+
+/*
+ * Writes the key of an object file, which is the SHA-256 of its canonical file. Sets `written`, which
+ * is BPFCANON_KEY_SIZE.
+ *
+ * Statuses: BPFCANON_DONE, BPFCANON_FAULT, BPFCANON_MEMORY, BPFCANON_ROOM.
+ */
+bpfcanon_answer bpfcanon_object_key(const uint8_t *bytes, size_t len, uint8_t *out, size_t room);
+
+/*
+ * Checks that an object file has a canonical file, or reports its first fault. Its code isn't
+ * checked: bpfcanon_insn_groups does that for the bytes of a section.
+ *
+ * Statuses: BPFCANON_DONE, BPFCANON_FAULT, BPFCANON_MEMORY.
+ */
+bpfcanon_answer bpfcanon_object_check(const uint8_t *bytes, size_t len);
+
 /* --- Calls that allocate --- */
 
 /*
@@ -540,6 +653,7 @@ bpfcanon_answer bpfcanon_insn_show_new(uint32_t order, const uint8_t *bytes, siz
                                        char **out);
 bpfcanon_answer bpfcanon_insn_read_new(uint32_t to, const char *text, size_t len, uint8_t **out);
 bpfcanon_answer bpfcanon_btf_show_new(const uint8_t *bytes, size_t len, char **out);
+bpfcanon_answer bpfcanon_object_canon_new(const uint8_t *bytes, size_t len, uint8_t **out);
 
 /*
  * Likewise with records in place of bytes, which `written` counts, and for BTF with two blocks. The
@@ -561,7 +675,8 @@ const char *bpfcanon_version(void);
 /*
  * The name of a status or cause, for example "Truncated", and a sentence that explains it, without
  * a full stop. The names and sentences of causes are those of docs/FAULTS.md; the cause 0 of
- * bpfcanon_insn_encode has one too. NULL for any other number. The strings are static.
+ * bpfcanon_insn_encode has one too, and bpfcanon_object_cause_name and _text also give those of enum
+ * bpfcanon_btf_cause. NULL for any other number. The strings are static.
  */
 const char *bpfcanon_status_name(uint32_t status);
 const char *bpfcanon_status_text(uint32_t status);
@@ -571,6 +686,8 @@ const char *bpfcanon_line_cause_name(uint32_t cause);
 const char *bpfcanon_line_cause_text(uint32_t cause);
 const char *bpfcanon_btf_cause_name(uint32_t cause);
 const char *bpfcanon_btf_cause_text(uint32_t cause);
+const char *bpfcanon_object_cause_name(uint32_t cause);
+const char *bpfcanon_object_cause_text(uint32_t cause);
 
 #ifdef __cplusplus
 }

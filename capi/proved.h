@@ -37,4 +37,12 @@ bpfcanon_answer bpfcanon_proved_insn_same(uint32_t first_order, const uint8_t *f
 bpfcanon_answer bpfcanon_proved_insn_show(uint32_t order, const uint8_t *bytes, size_t len,
                                           uint8_t *out, size_t room);
 
+bpfcanon_answer bpfcanon_proved_object_canon(const uint8_t *bytes, size_t len, uint8_t *out,
+                                             size_t room);
+bpfcanon_answer bpfcanon_proved_object_check(const uint8_t *bytes, size_t len);
+bpfcanon_answer bpfcanon_proved_object_key(const uint8_t *bytes, size_t len, uint8_t *out,
+                                           size_t room);
+bpfcanon_answer bpfcanon_proved_object_same(const uint8_t *first, size_t first_len,
+                                            const uint8_t *second, size_t second_len);
+
 #endif

@@ -79,6 +79,64 @@ const (
 	BTFComponent                        // component_idx is neither -1 nor the index of a member or parameter of the tagged type
 )
 
+// An ObjectCause is the cause of a fault in an object file. A fault of .BTF by itself has a BTFCause.
+type ObjectCause uint32
+
+const (
+	ObjectFileTooLarge          ObjectCause = iota + 101 // the file is longer than 64 MiB
+	ObjectFileCut                                        // the file is shorter than an ELF header
+	ObjectMagic                                          // the file doesn't begin with the magic number of ELF
+	ObjectClass                                          // the file isn't a 64-bit ELF file
+	ObjectByteOrder                                      // the file states no byte order
+	ObjectIdentVersion                                   // EI_VERSION isn't 1
+	ObjectFileType                                       // the file isn't relocatable
+	ObjectMachine                                        // the file isn't for BPF
+	ObjectFileVersion                                    // e_version isn't 1
+	ObjectHeaderSize                                     // e_ehsize isn't 64
+	ObjectSegments                                       // there are program headers
+	ObjectSectionHeaderSize                              // e_shentsize isn't 64
+	ObjectSectionCount                                   // the number of sections is 0, or 0xff00 or more
+	ObjectSectionTable                                   // the section header table isn't inside the file
+	ObjectNamesIndex                                     // e_shstrndx isn't the index of a section
+	ObjectFirstSection                                   // the first section header isn't zero
+	ObjectNamesTable                                     // the names of sections aren't in a string table
+	ObjectSectionCut                                     // the section extends past the end of the file
+	ObjectSectionName                                    // the section's name is outside the names, or longer than 1,024 bytes
+	ObjectSectionKind                                    // no section of a BPF object has this type, name and flags
+	ObjectSectionTwice                                   // there are two sections of a kind of which a file has one
+	ObjectRelocationTarget                               // the table of relocations isn't named after the section that it is for
+	ObjectNoSymbols                                      // there is no symbol table
+	ObjectSymbolTableSize                                // the size of the symbol table isn't that of one or more symbols
+	ObjectSymbolEntrySize                                // sh_entsize of the symbol table isn't 24
+	ObjectSymbolNames                                    // the names of symbols aren't in a string table
+	ObjectFirstSymbol                                    // the first symbol isn't zero
+	ObjectSymbolName                                     // the symbol's name is outside the names of symbols
+	ObjectSymbolSection                                  // the symbol is in no section, or isn't local and in a section that loaders don't see
+	ObjectSymbolPlace                                    // the symbol extends past the end of its section
+	ObjectRelocationTableSize                            // the size of the table of relocations isn't a multiple of 16
+	ObjectRelocationEntrySize                            // sh_entsize of the table of relocations isn't 16
+	ObjectRelocationSymbols                              // sh_link of the table of relocations isn't the symbol table
+	ObjectRelocationSymbol                               // the relocation names no symbol, or one that is in no section of code or data
+	ObjectTypesTooLarge                                  // .BTF has more than 15,728,640 bytes
+	ObjectTypesOrder                                     // the byte order of .BTF isn't that of the file
+	ObjectTypesLayout                                    // type_off of .BTF isn't 0
+	ObjectTypesName                                      // a name_off of .BTF that isn't 0 leads to an empty string
+	ObjectTypesSection                                   // a DATASEC has a reserved name
+	ObjectTypesFlag                                      // the kind_flag of a struct or union without bit-fields isn't 0
+	ObjectExtensionWithoutTypes                          // there is a .BTF.ext, and no .BTF
+	ObjectExtensionCut                                   // .BTF.ext has fewer than 32 bytes
+	ObjectExtensionMagic                                 // .BTF.ext doesn't begin with its magic number in the byte order of the file
+	ObjectExtensionVersion                               // the version of .BTF.ext isn't 1
+	ObjectExtensionFlags                                 // the flags of .BTF.ext aren't 0
+	ObjectExtensionHeaderSize                            // hdr_len of .BTF.ext is under 32, or not less than the section
+	ObjectExtensionPart                                  // a part of .BTF.ext isn't inside the section, or not aligned to 4 bytes
+	ObjectExtensionRecordSize                            // the records of a part of .BTF.ext don't have the size of the part
+	ObjectExtensionGroup                                 // a group of records extends past the end of its part, or is empty
+	ObjectExtensionString                                // a string of .BTF.ext isn't inside the strings of .BTF, or no section can have this name
+	ObjectExtensionLines                                 // functions and source lines don't belong to one another
+	ObjectResultTooLarge                                 // the canonical file, or its .BTF, is larger than a file may be
+)
+
 // String returns the name of the cause, for example "Opcode", or "InsnCause(9)" for a number without
 // a name.
 func (c InsnCause) String() string {
