@@ -7,6 +7,7 @@
  */
 #include "checks.h"
 #include "allocations.h"
+#include "object_file.h"
 #ifdef PROVED
 #include "proved_pointers.h"
 #endif
@@ -68,24 +69,35 @@ static bpfcanon_answer insn_read_new(uint32_t order, uint32_t to, const uint8_t 
 	return (void)order, bpfcanon_insn_read_new(to, (const char *)bytes, len, out);
 }
 
-enum { BTF_CANON, BTF_SHOW, INSN_CANON, INSN_SHOW, INSN_READ, CALLS };
+static bpfcanon_answer object_canon(uint32_t order, uint32_t to, const uint8_t *bytes, size_t len, uint8_t *out, size_t room)
+{
+	return (void)order, (void)to, bpfcanon_object_canon(bytes, len, out, room);
+}
+
+static bpfcanon_answer object_canon_new(uint32_t order, uint32_t to, const uint8_t *bytes, size_t len, uint8_t **out)
+{
+	return (void)order, (void)to, bpfcanon_object_canon_new(bytes, len, out);
+}
+
+enum { BTF_CANON, BTF_SHOW, INSN_CANON, INSN_SHOW, INSN_READ, OBJECT_CANON, CALLS };
 
 static const struct {
 	const char *name;
 	new_call *make;
 	room_call *write;
 	uint32_t orders, tos; /* how many numbers of byte orders are tried: 0, 1 and 2, or only 0 if the call has none */
-	uint32_t causes;      /* the greatest number of a cause */
+	uint32_t causes;      /* the greatest number of a cause, if each has to be seen */
 } calls[CALLS] = {
 	[BTF_CANON] = { "btf_canon_new", btf_canon_new, btf_canon, 1, 3, 32 },
 	[BTF_SHOW] = { "btf_show_new", btf_show_new, btf_show, 1, 1, 32 },
 	[INSN_CANON] = { "insn_canon_new", bpfcanon_insn_canon_new, bpfcanon_insn_canon, 3, 3, 8 },
 	[INSN_SHOW] = { "insn_show_new", insn_show_new, insn_show, 3, 1, 8 },
 	[INSN_READ] = { "insn_read_new", insn_read_new, insn_read, 1, 3, 4 },
+	[OBJECT_CANON] = { "object_canon_new", object_canon_new, object_canon, 1, 1, 0 },
 };
 
 static uint8_t wanted[ROOM], marker;
-static char seen[CALLS][33]; /* the causes that were reported */
+static char seen[CALLS][BPFCANON_OBJECT_CAUSES + 1]; /* the causes that were reported */
 
 /* The complete output in a block of its own, with a NUL after it. */
 static int is_block_of(const uint8_t *block, bpfcanon_answer answer)
@@ -293,6 +305,7 @@ int main(int argc, char **argv)
 	}
 	try_files(argv[1]);
 	try_listings();
+	try_changed(OBJECT_CANON, (const uint8_t *)&OBJECT, sizeof OBJECT);
 	try_long_outputs();
 	try_long_names(8);
 	try_long_names(40);

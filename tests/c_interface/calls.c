@@ -98,6 +98,7 @@ static void streams_may_be_cut_anywhere(const char *folder)
 _Static_assert(BPFCANON_INSN_CAUSES == BPFCANON_INSN_NEXT_IMM, "the last cause of instructions");
 _Static_assert(BPFCANON_LINE_CAUSES == BPFCANON_LINE_RANGE, "the last cause of listings");
 _Static_assert(BPFCANON_BTF_CAUSES == BPFCANON_BTF_COMPONENT, "the last cause of BTF");
+_Static_assert(BPFCANON_OBJECT_CAUSES == BPFCANON_OBJECT_RESULT_TOO_LARGE, "the last cause of object files");
 _Static_assert(BPFCANON_VERSION_NUMBER / 1000000 == BPFCANON_VERSION_MAJOR, "the major version");
 _Static_assert(BPFCANON_VERSION_NUMBER / 1000 % 1000 == BPFCANON_VERSION_MINOR, "the minor version");
 _Static_assert(BPFCANON_VERSION_NUMBER % 1000 == BPFCANON_VERSION_PATCH, "the patch version");

@@ -5,6 +5,7 @@
 #define _POSIX_C_SOURCE 200809L
 
 #include "checks.h"
+#include "object_file.h"
 
 #include <signal.h>
 #include <sys/resource.h>
@@ -51,6 +52,14 @@ static void insn_canon_new(void) { bpfcanon_insn_canon_new(0, 1, NULL, LONG, &bl
 static void insn_decode_new(void) { bpfcanon_insn_decode_new(0, NULL, LONG, &new_insns); }
 static void insn_read_new(void) { bpfcanon_insn_read_new(0, NULL, LONG, &block); }
 static void insn_show_new(void) { bpfcanon_insn_show_new(0, NULL, LONG, &text); }
+static void object_canon(void) { bpfcanon_object_canon(NULL, LONG, out, sizeof out); }
+static void object_canon_new(void) { bpfcanon_object_canon_new(NULL, LONG, &block); }
+static void object_check(void) { bpfcanon_object_check(NULL, LONG); }
+static void object_key(void) { bpfcanon_object_key(NULL, LONG, out, sizeof out); }
+static void object_same_first(void) { bpfcanon_object_same(NULL, LONG, (const uint8_t *)&OBJECT, sizeof OBJECT); }
+static void object_same_second(void) { bpfcanon_object_same((const uint8_t *)&OBJECT, sizeof OBJECT, NULL, LONG); }
+static void object_canon_out(void) { bpfcanon_object_canon((const uint8_t *)&OBJECT, sizeof OBJECT, NULL, LONG); }
+static void object_key_out(void) { bpfcanon_object_key((const uint8_t *)&OBJECT, sizeof OBJECT, NULL, LONG); }
 
 /* An enum with a value: what is written to NULL are its listing, its record and the record of its value. */
 static const uint8_t one_enum[] =
@@ -97,6 +106,14 @@ static const struct {
 	{ "insn_decode_new", insn_decode_new },
 	{ "insn_read_new", insn_read_new },
 	{ "insn_show_new", insn_show_new },
+	{ "object_canon", object_canon },
+	{ "object_canon, out", object_canon_out },
+	{ "object_canon_new", object_canon_new },
+	{ "object_check", object_check },
+	{ "object_key", object_key },
+	{ "object_key, out", object_key_out },
+	{ "object_same, first", object_same_first },
+	{ "object_same, second", object_same_second },
 };
 
 /* A process that makes one call, without a handler of a sanitizer and without a core file. */

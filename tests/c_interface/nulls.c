@@ -22,7 +22,11 @@ int main(void)
 	bpfcanon_insn_read(BPFCANON_LITTLE, NULL, 0, NULL, 0);
 	bpfcanon_insn_same(BPFCANON_LITTLE, NULL, 0, BPFCANON_BIG, NULL, 0);
 	bpfcanon_insn_show(BPFCANON_LITTLE, NULL, 0, NULL, 0);
-	CHECK(proved_calls == 13);
+	bpfcanon_object_canon(NULL, 0, NULL, 0);
+	bpfcanon_object_check(NULL, 0);
+	bpfcanon_object_key(NULL, 0, NULL, 0);
+	bpfcanon_object_same(NULL, 0, NULL, 0);
+	CHECK(proved_calls == 17);
 
 	CHECK(is(bpfcanon_btf_canon_new(BPFCANON_LITTLE, NULL, 0, &block), fault(BPFCANON_BTF_SHORT_HEADER, 0)));
 	CHECK(is(bpfcanon_insn_canon_new(BPFCANON_LITTLE, BPFCANON_BIG, NULL, 0, &block), written(0)));
@@ -35,6 +39,7 @@ int main(void)
 	CHECK(is(bpfcanon_insn_decode_new(BPFCANON_LITTLE, NULL, 0, &insns), written(0)));
 	bpfcanon_free(insns);
 	CHECK(is(bpfcanon_btf_decode_new(NULL, 0, &types, &items), fault(BPFCANON_BTF_SHORT_HEADER, 0)));
-	CHECK(proved_calls == 20);
+	CHECK(is(bpfcanon_object_canon_new(NULL, 0, &block), fault(BPFCANON_OBJECT_FILE_CUT, 0)));
+	CHECK(proved_calls == 25);
 	return end("null pointers");
 }

@@ -47,5 +47,11 @@ NO_NULL(bpfcanon_answer, insn_same, (uint32_t order, const uint8_t *a, size_t a_
         (order, a, a_len, other, b, b_len), a && b)
 NO_NULL(bpfcanon_answer, insn_show, (uint32_t order, const uint8_t *bytes, size_t len, uint8_t *out, size_t room),
         (order, bytes, len, out, room), bytes && out)
+NO_NULL(bpfcanon_answer, object_canon, (const uint8_t *bytes, size_t len, uint8_t *out, size_t room), (bytes, len, out, room),
+        bytes && out)
+NO_NULL(bpfcanon_answer, object_check, (const uint8_t *bytes, size_t len), (bytes, len), bytes)
+NO_NULL(bpfcanon_answer, object_key, (const uint8_t *bytes, size_t len, uint8_t *out, size_t room), (bytes, len, out, room),
+        bytes && out)
+NO_NULL(bpfcanon_answer, object_same, (const uint8_t *a, size_t a_len, const uint8_t *b, size_t b_len), (a, a_len, b, b_len), a && b)
 
 #endif

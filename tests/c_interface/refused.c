@@ -4,6 +4,7 @@
  */
 #include "checks.h"
 #include "allocations.h"
+#include "object_file.h"
 
 static uint8_t input[4096], before[4096];
 static _Alignas(8) uint8_t out[4096];
@@ -61,6 +62,13 @@ static bpfcanon_answer insn_front(void)
 	return bpfcanon_insn_front(BPFCANON_LITTLE, BPFCANON_BIG, before, 83, out, sizeof out);
 }
 
+static const uint8_t *const object = (const uint8_t *)&OBJECT;
+
+static bpfcanon_answer object_canon(void) { return bpfcanon_object_canon(object, sizeof OBJECT, out, sizeof out); }
+static bpfcanon_answer object_check(void) { return bpfcanon_object_check(object, sizeof OBJECT); }
+static bpfcanon_answer object_key(void) { return bpfcanon_object_key(object, sizeof OBJECT, out, sizeof out); }
+static bpfcanon_answer object_same(void) { return bpfcanon_object_same(object, sizeof OBJECT, object, sizeof OBJECT); }
+
 /* The same with a fault in the last slot. */
 static bpfcanon_answer faulty_front(void)
 {
@@ -85,6 +93,8 @@ static const struct {
 	{ "insn_groups", insn_groups, BPFCANON_DONE, 0 },   { "insn_read", insn_read, BPFCANON_DONE, 1 },
 	{ "insn_same", insn_same, BPFCANON_DONE, 0 },       { "insn_show", insn_show, BPFCANON_DONE, 1 },
 	{ "insn_front", insn_front, BPFCANON_DONE, 1 },     { "faulty_front", faulty_front, BPFCANON_FAULT, 1 },
+	{ "object_canon", object_canon, BPFCANON_DONE, 1 }, { "object_check", object_check, BPFCANON_DONE, 1 },
+	{ "object_key", object_key, BPFCANON_DONE, 1 },     { "object_same", object_same, BPFCANON_DONE, 1 },
 };
 
 /* The call with 0, 1, 2 .. allocations, until that is enough. */

@@ -19,6 +19,7 @@ FILES = {
     "crates/bpfcanon_c/specs/Answers.antt": True,
     "crates/bpfcanon_c/proofs/Lib.antt": True,
     "crates/bpf_words/src/lib.rt": True,
+    "crates/bpf_object/src/lib.rt": True,
     "crates/bpf_canon/specs/Lib.antt": True,
     "crates/bpfcanon/src/main.rt": False,
     "capi/bpfcanon.c": False,

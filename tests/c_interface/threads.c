@@ -3,14 +3,15 @@
  * faulty inputs in between, and invalid byte orders. All of them ask for each name. usage: threads TESTDATA
  */
 #include "checks.h"
+#include "object_file.h"
 
 #include <pthread.h>
 #include <stdatomic.h>
 
 #define THREADS 8
 #define ROUNDS 1000
-/* more than the number of names in any table */
-#define NAMES 40
+/* more than the number of any cause */
+#define NAMES 160
 
 /* A block with what it has to hold, on its way to the thread that frees it. */
 struct made {
@@ -81,6 +82,9 @@ static void make_all(int thread, int order)
 	answer = bpfcanon_insn_read_new(order, insns[0].text, insns[0].text_len, &block);
 	expect(is(answer, written(insns[order].len)));
 	pass_on(thread, block, insns[order].bytes, insns[order].len);
+	answer = bpfcanon_object_canon_new((const uint8_t *)&OBJECT, sizeof OBJECT, &block);
+	expect(is(answer, written(sizeof OBJECT)));
+	pass_on(thread, block, &OBJECT, sizeof OBJECT);
 }
 
 static void make_records(int thread, int order)
@@ -118,7 +122,8 @@ static struct {
 } strings[] = {
 	{ .call = bpfcanon_status_name },     { .call = bpfcanon_status_text },     { .call = bpfcanon_insn_cause_name },
 	{ .call = bpfcanon_insn_cause_text }, { .call = bpfcanon_line_cause_name }, { .call = bpfcanon_line_cause_text },
-	{ .call = bpfcanon_btf_cause_name },  { .call = bpfcanon_btf_cause_text },
+	{ .call = bpfcanon_btf_cause_name },  { .call = bpfcanon_btf_cause_text },  { .call = bpfcanon_object_cause_name },
+	{ .call = bpfcanon_object_cause_text },
 };
 
 /* Asks for the string of each number, and compares it after the next ones. NULL is an empty copy. */

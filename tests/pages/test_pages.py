@@ -153,9 +153,9 @@ def rooms_of_page(page):
 
 
 def rooms_of_source():
-    """How many times its input the first block of a call that allocates has. Type listings have no bound."""
+    """How many times its input the first block of a call that allocates has. Type listings and canonical object files have no bound."""
     calls = re.findall(r"^bpfcanon_answer (bpfcanon_\w+)_new\((?:.|\n)*?write_new\(&request, (\d), ", SOURCE, re.MULTILINE)
-    return {name: int(times) for name, times in calls if name != "bpfcanon_btf_show"}
+    return {name: int(times) for name, times in calls if name not in ("bpfcanon_btf_show", "bpfcanon_object_canon")}
 
 
 def test_library():

@@ -43,7 +43,7 @@ VECTORS += [f"{name}{end}" for name in ("hash_words", "packet_filter") for end i
 VECTORS += ["objects", "pass.c", "objects/objects.tsv", *(f"objects/{name}.c" for name in ("calls", "core", "data", "externs", "maps"))]
 VECTORS += [f"objects/{row.file}" for row in object_vectors.rows()]
 # The crates of the kit whose code can be in the program or in the library: those that crates.txt names, and strsim, which clap uses.
-CRATES = ["arrayvec", "bumpalo", "byteorder", "clap", "indexmap", "itoa", "memchr", "simdutf8", "strsim", "thiserror"]
+CRATES = ["arrayvec", "bumpalo", "byteorder", "clap", "indexmap", "itoa", "memchr", "sha2", "simdutf8", "strsim", "thiserror"]
 # What each package depends on, besides the versions of the C library, which dpkg-shlibdeps finds.
 DEPENDS = {
     "bpfcanon": "",

@@ -69,6 +69,23 @@ def test_sources(kind):
     assert numbers == [(name, str(number)) for number, name, _ in causes]
 
 
+def in_errors(text, enum):
+    """The sentence of each variant of an enum that thiserror displays, but for those that hold another cause."""
+    body = re.search(rf"^pub enum {enum} \{{\n(.*?)^\}}", text, re.MULTILINE | re.DOTALL)[1]
+    return re.findall(r'#\[error\("(.*)"\)\]\n    (\w+)(?: = 1)?,', body)
+
+
+def test_objects():
+    """The causes of object files: those of the ELF file, then the others, with the numbers of the crate for C. The page names each."""
+    causes = table()["object"]
+    declared = in_errors(source("bpf_elf/src/fault.rt"), "ElfCause") + in_errors(source("bpf_object/src/fault.rt"), "ObjectCause")
+    assert [(sentence, name) for _, name, sentence in causes] == declared
+    numbers = re.findall(r"^object_cause_number \(?cause\.(?:Elf elf\.)?(\w+)\)? = (\d+)$", source("bpfcanon_c/specs/ObjectCauses.antt"), re.MULTILINE)
+    assert numbers == [(name, str(number)) for number, name, _ in causes]
+    page = (TOP / "docs" / "OBJECTS.md").read_text().partition("## Refused files")[2].partition("\n### ")[0]
+    assert {name for _, name, _ in causes} <= set(re.findall(r"\w+", page))
+
+
 @pytest.mark.parametrize("kind", DECLARED)
 def test_uses(kind):
     """Each cause has a vector, no vector has another one, and bpfcanon.1 names each."""

@@ -4,7 +4,7 @@ use Rattle.bpf_words.specs.declared.Order.{Order}
 use Rattle.bpf_insn.specs.{declared.insn.Insn.Insn, Spelling.InsnFile, Spelling.file_of}
 use Rattle.bpf_canon.proofs.InsnLemmas.FrontLaws.{length-file_same}
 use Rattle.bpfcanon_c.specs.declared.answer.{FaultCode.FaultCode, Ending.Ending}
-use Rattle.bpfcanon_c.specs.declared.answer.Ending.TheVariants.{Written, Types, Groups, Same, Different, First, Second, Memory, Room}
+use Rattle.bpfcanon_c.specs.declared.answer.Ending.TheVariants.{Written, Types, Groups, Accepted, Same, Different, First, Second, Memory, Room}
 use Rattle.bpfcanon_c.specs.declared.answer.Ending.TheVariants as ending
 use Rattle.bpfcanon_c.specs.{Answers.order_number, Answers.FillsRoom, Outputs.EndsOutput, Outputs.EndsInOrder}
 
@@ -14,6 +14,7 @@ ends_output IsOutput IsFault old new out (Written n) h p = (out, (h, p))
 ends_output IsOutput IsFault old new out (Room n) h p = (out, (h, p))
 ends_output IsOutput IsFault old new out (Types n) h p = absurd p
 ends_output IsOutput IsFault old new out (Groups n) h p = absurd p
+ends_output IsOutput IsFault old new out Accepted h p = absurd p
 ends_output IsOutput IsFault old new out Same h p = absurd p
 ends_output IsOutput IsFault old new out Different h p = absurd p
 ends_output IsOutput IsFault old new out (First f) h p = absurd p
@@ -28,6 +29,7 @@ ends_in_order n o Ends old new (Written k) named ends none = (o, (named, ends))
 ends_in_order n o Ends old new (Room k) named ends none = (o, (named, ends))
 ends_in_order n o Ends old new (Types k) named ends none = (o, (named, ends))
 ends_in_order n o Ends old new (Groups k) named ends none = (o, (named, ends))
+ends_in_order n o Ends old new Accepted named ends none = (o, (named, ends))
 ends_in_order n o Ends old new Same named ends none = (o, (named, ends))
 ends_in_order n o Ends old new Different named ends none = (o, (named, ends))
 ends_in_order n o Ends old new (First f) named ends none = (o, (named, ends))

@@ -10,7 +10,7 @@ use Rattle.btf_types.specs.declared.error.BtfError.TheVariants as btf
 use Rattle.bpf_canon.specs.declared.engine.SideError.{SideError}
 use Rattle.bpf_canon.specs.declared.engine.SideError.TheVariants as side
 use Rattle.bpfcanon_c.specs.declared.answer.{Answer.Answer, Ending.Ending, FaultCode.FaultCode}
-use Rattle.bpfcanon_c.specs.declared.answer.Ending.TheVariants.{Written, Types, Groups, Same, Different, First, Second, Memory, Room}
+use Rattle.bpfcanon_c.specs.declared.answer.Ending.TheVariants.{Written, Types, Groups, Accepted, Same, Different, First, Second, Memory, Room}
 use Rattle.bpfcanon_c.specs.declared.answer.Ending.TheVariants as ending
 
 -- the answer that has only a status
@@ -24,6 +24,7 @@ abbrev pub answer_of : Ending → Answer
 answer_of (Written n) = record { status = 0; cause = 0; pos = 0; line = 0; read = 0; written = n; needed = 0; types = 0; groups = 0 }
 answer_of (Types n) = record { status = 0; cause = 0; pos = 0; line = 0; read = 0; written = 0; needed = 0; types = n; groups = 0 }
 answer_of (Groups n) = record { status = 0; cause = 0; pos = 0; line = 0; read = 0; written = 0; needed = 0; types = 0; groups = n }
+answer_of Accepted = bare_answer 0
 answer_of Same = bare_answer 0
 answer_of Different = bare_answer 1
 answer_of (First f) = fault_answer 2 f

@@ -10,6 +10,8 @@ pub mod InsnEncoding
 pub mod InsnRows
 pub mod InsnSteps
 pub mod Listings
+pub mod ObjectCauses
+pub mod Objects
 pub mod OpcodeRows
 pub mod Outputs
 pub mod RawEncoding

@@ -30,6 +30,8 @@ pub enum Ending {
     Types(u32),
     /// The instructions need the groups of this mask.
     Groups(u32),
+    /// The input is accepted.
+    Accepted,
     /// Two inputs are the same.
     Same,
     /// Two inputs are different.
@@ -99,7 +101,7 @@ pub fn compared<F, C: FnOnce(F) -> FaultCode + Drop>(
 #[repr(C)]
 #[derive(Clone, Copy)]
 pub struct Answer {
-    /// 0 done or the same, 1 different, 2 a fault of the input or of the first of two, 3 a fault of
+    /// 0 done, accepted or the same, 1 different, 2 a fault of the input or of the first of two, 3 a fault of
     /// the second, 4 out of memory, 5 the buffer is too short, 6 an invalid byte order.
     pub status: u32,
     /// The number of the fault's cause.
@@ -130,7 +132,7 @@ pub fn report(ending: Ending) -> Answer
         Ending::Written(written) => Answer { written, ..done },
         Ending::Types(types) => Answer { types, ..done },
         Ending::Groups(groups) => Answer { groups, ..done },
-        Ending::Same => done,
+        Ending::Accepted | Ending::Same => done,
         Ending::Different => with_status(1),
         Ending::First(fault) => with_fault(2, fault),
         Ending::Second(fault) => with_fault(3, fault),

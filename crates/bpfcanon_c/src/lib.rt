@@ -20,6 +20,7 @@ mod insn_decode;
 mod insn_encode;
 mod insn_rows;
 mod listing;
+mod object;
 mod opcode_rows;
 mod types_text;
 
