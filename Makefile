@@ -116,7 +116,7 @@ dist:
 WHEEL = out/wheel
 wheel: $(LIBRARY)
 	rm -rf $(WHEEL) && mkdir -p $(WHEEL) && cp -r bindings/python/. $(WHEEL) && mkdir $(WHEEL)/share
-	cp man/bpfcanon-object.1 completions/bash/bpfcanon-object completions/zsh/_bpfcanon-object $(WHEEL)/share
+	cp man/bpfcanon-review.1 completions/bash/bpfcanon-review completions/zsh/_bpfcanon-review $(WHEEL)/share
 	cp out/prefix/lib/libbpfcanon.so.$(VERSION) $(WHEEL)/bpfcanon/libbpfcanon.so.0
 	cp $(firstword $(wildcard LICENSE) packaging/NO-LICENSE) $(WHEEL)/LICENSE
 	cd $(WHEEL) && $(PYTHON) -m build -nw -C--global-option=bdist_wheel -C--global-option=--plat-name=manylinux2014_x86_64 -o ../dist

@@ -28,7 +28,6 @@ def pytest_addoption(parser):
     parser.addoption("--tree", type=pathlib.Path, default=TOP, help="the tree that it was made from")
     parser.addoption("--seed", default="1", help="of the changed object files")
     parser.addoption("--count", type=int, default=2_000, help="how many object files are changed")
-    parser.addoption("--show", type=int, help="shows a changed object file by its number")
 
 
 def compares(function):
@@ -99,16 +98,6 @@ def failing(tmp_path_factory):
 def prefix(request):
     """Where the C library is installed."""
     return built(request.config.getoption("prefix"), "all")
-
-
-@pytest.fixture(scope="session")
-def object_tool(prefix, tmp_path_factory):
-    """The environment of processes that find bpfcanon-object and the Python package, over the C library."""
-    own = {"BPFCANON_LIBRARY": f"{prefix}/lib/libbpfcanon.so.0", "PYTHONPATH": f"{TOP}/bindings/python", "PYTHONDONTWRITEBYTECODE": "1"}
-    tool = tmp_path_factory.mktemp("tools") / "bpfcanon-object"
-    tool.write_text(f'#!/bin/sh\nexec {sys.executable} -m bpfcanon.objects "$@"\n')
-    tool.chmod(0o755)
-    return os.environ | own | {"PATH": f"{tool.parent}:{os.environ['PATH']}"}
 
 
 @pytest.fixture(scope="session")

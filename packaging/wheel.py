@@ -9,11 +9,11 @@ import zipfile
 from tree import SONAME, TOP, VERSION, epoch, files, run, standing_alone
 
 PACKAGE = TOP / "bindings" / "python"
-# Where the files of the command bpfcanon-object are installed, below the prefix of Python.
+# Where the files of the command bpfcanon-review are installed, below the prefix of Python.
 SHARED = {
-    "share/man/man1/bpfcanon-object.1": "man/bpfcanon-object.1",
-    "share/bash-completion/completions/bpfcanon-object": "completions/bash/bpfcanon-object",
-    "share/zsh/site-functions/_bpfcanon-object": "completions/zsh/_bpfcanon-object",
+    "share/man/man1/bpfcanon-review.1": "man/bpfcanon-review.1",
+    "share/bash-completion/completions/bpfcanon-review": "completions/bash/bpfcanon-review",
+    "share/zsh/site-functions/_bpfcanon-review": "completions/zsh/_bpfcanon-review",
 }
 # The glibc of the tag manylinux2014, which older versions of pip know too.
 OLDEST = (2, 17)
@@ -41,6 +41,8 @@ def metadata(licence):
     value = {key: re.search(f'^{key} = "(.*)"$', project(), re.MULTILINE)[1] for key in ("version", "description", "requires-python")}
     head = f"Metadata-Version: 2.1\nName: bpfcanon\nVersion: {value['version']}\nSummary: {value['description']}\n"
     head += f"License: see {licence}\nRequires-Python: {value['requires-python']}\n"
+    extra, needed = re.search(r'^\[project\.optional-dependencies\]\n(\w+) = \["(.*)"\]$', project(), re.MULTILINE).groups()
+    head += f"Provides-Extra: {extra}\nRequires-Dist: {needed}; extra == '{extra}'\n"
     return f"{head}Description-Content-Type: text/markdown\n\n{standing_alone((PACKAGE / 'README.md').read_text())}"
 
 

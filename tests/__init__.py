@@ -7,7 +7,7 @@
     languages/    the packages for Go, Rust and Python, and their readers of the vectors, over wrong vectors and wrong answers
     c_interface/  the C library
     judges/       compare canonical object files with what libbpf, cilium/ebpf, the kernel and other tools say of the originals
-    objects/      compare keys of object files with what libbpf loads, and those of Go with those of Python
+    objects/      object files changed with knowledge of ELF and BTF, which the judges use too, and what bpfcanon-review shows of them
     released/     the parts of tests/release, which uses the files of a release
 """
 

@@ -13,7 +13,6 @@ from tests import TOP
 # What Debian's packages install that isn't a command.
 MODULES, GOCODE, CRATES = "/usr/lib/python3/dist-packages", "/usr/share/gocode", "/usr/share/cargo/registry"
 FILES = {
-    "python3-distributed": f"{MODULES}/distributed",
     "python3-yaml": f"{MODULES}/yaml",
     "elftools": f"{MODULES}/elftools",
     "setuptools": f"{MODULES}/setuptools",
@@ -40,7 +39,7 @@ def is_offered(tool):
 
 
 # What isn't in a package: the kit's command, and our own.
-OWN = {"rt", "bpfcanon-object"}
+OWN = {"rt", "bpfcanon-review"}
 
 
 def is_there(tool, path):

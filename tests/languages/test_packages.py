@@ -59,11 +59,11 @@ def test_python_soname(python, prefix):
     assert python.run(line, LD_LIBRARY_PATH=f"{prefix}/lib") == ""
 
 
-@pytest.mark.needs("pip", "setuptools", "wheel")
+@pytest.mark.needs("elftools", "pip", "setuptools", "wheel")
 def test_python_install(python, tmp_path):
     """The package as pip installs it has its type hints and its command."""
     options = "--quiet --disable-pip-version-check --no-index --no-deps --no-build-isolation"
     line = f"cp -R . {tmp_path}/own && cd {tmp_path} && /usr/bin/python3 -m pip install {options} --target site ./own && test -f site/bpfcanon/py.typed"
     python.run(line, PIP_ROOT_USER_ACTION="ignore")
-    line = f'cd {tmp_path} && /usr/bin/python3 -c "import bpfcanon; bpfcanon.insn_canon(bytes())" && /usr/bin/python3 site/bin/bpfcanon-object key {TOP}/bindings/python/tests/compiled/flows.big.elf'
-    assert python.run(line, PYTHONPATH=f"{tmp_path}/site").endswith("flows.big.elf\n")
+    line = f'cd {tmp_path} && /usr/bin/python3 -c "import bpfcanon; bpfcanon.insn_canon(bytes())" && /usr/bin/python3 site/bin/bpfcanon-review list {TOP}/bindings/python/tests/compiled/flows.big.elf'
+    assert python.run(line, PYTHONPATH=f"{tmp_path}/site").endswith("flows.big.elf:xdp:count_flows\n")

@@ -93,11 +93,6 @@ def byte_changed(bases: Sequence[Base], number: int) -> Changed:
     raise IndexError(number)
 
 
-def count_bytes(bases: Sequence[Base]) -> int:
-    """How many such changes there are, with the bases themselves."""
-    return len(bases) + len(WAYS) * sum(len(it.content) for it in bases)
-
-
 def changed(bases: Sequence[Base], seed: str, number: int) -> Changed:
     """The change with a number; the first ones are the bases themselves. Without a seed it is one of a single byte."""
     if number < len(bases):

@@ -2,7 +2,6 @@
 
 from __future__ import annotations
 
-import struct
 import subprocess
 from pathlib import Path
 from typing import Optional
@@ -10,7 +9,6 @@ from typing import Optional
 from tests.objects.bases import HERE, NATIVE, compile_source
 
 PARTS = ("loaded.c", "object.c", "kernel.c", "calls.c", "light.c", "types.c", "view.c")
-OPENED = b"opened"  # how the view of an object begins that libbpf doesn't refuse
 REPLACED = ("syscall", "fopen64", "gzopen64", "btf__load_vmlinux_btf", "mkdir")
 
 
@@ -31,18 +29,3 @@ def build(folder: Path, archive: Path) -> list[str]:
     if not compile_source(HERE / "sources/kernel.c", NATIVE, ("-g",), kernel):
         raise SystemExit("object keys: FAILED (clang refuses kernel.c)")
     return [str(program), str(kernel)]
-
-
-class Views:
-    """One process that answers for many objects."""
-
-    def __init__(self, line: list[str], messages: bool = False) -> None:
-        words = [*line, "-v"] if messages else line
-        self.process = subprocess.Popen(words, stdin=subprocess.PIPE, stdout=subprocess.PIPE)
-
-    def view(self, content: bytes) -> bytes:
-        assert self.process.stdin and self.process.stdout
-        self.process.stdin.write(struct.pack("<I", len(content)) + content)
-        self.process.stdin.flush()
-        (length,) = struct.unpack("<I", self.process.stdout.read(4))
-        return self.process.stdout.read(length)

@@ -43,14 +43,13 @@ ELSEWHERE = {
     ("docs/LIBRARY.md", "python"): "tests/pages/test_object_examples.py",
     ("docs/LIBRARY.md", "rust"): "tests/pages/test_object_examples.py",
     ("docs/LIBRARY.md", "text"): "tests/pages/test_pages.py",
-    ("docs/OBJECTS.md", "text"): f"{PYTHON_TESTS}/test_objects_page.py",
     **{("docs/TRUST.md", language): "tests/pages/test_trust.py" for language in ("antt", "rattle", "text", "console")},
     ("testdata/README.md", "sh"): "tests/pages/test_examples.py",
     ("docs/CHANGING.md", "text"): "docs/CHANGING.md",
     ("docs/FORMATS.md", "text"): "docs/FORMATS.md",
 }
 COMMENT = re.compile(r"<!-- (needs|file|go|given|stand-in|not run): (.*?) -->")
-OBJECT_TOOL = "bpfcanon-object"
+REVIEW = "bpfcanon-review"
 CARGO = f'[net]\noffline = true\n[source.crates-io]\nreplace-with = "debian"\n[source.debian]\ndirectory = "{CRATES}"\n'
 RT = '#!/bin/sh\nshift\n[ "$1" != -- ] || shift\nexec bpfcanon "$@"\n'
 NO_LINKS = {".git", "crates", "out"}
@@ -119,8 +118,8 @@ class Page(pytest.File):
         self.settings |= {"GOCACHE": f"{self.tools}/go-cache", "CARGO_HOME": f"{self.tools}/cargo", "RUSTFLAGS": ""}
         if prefix.exists():
             own = {"BPFCANON_LIBRARY": f"{prefix}/lib/libbpfcanon.so.0", "PYTHONPATH": f"{TOP}/bindings/python"}
-            words = " ".join([*(f"{name}='{value}'" for name, value in own.items()), sys.executable, "-B -m bpfcanon.objects"])
-            write(self.tools / "bin" / OBJECT_TOOL, f'#!/bin/sh\nexec env {words} "$@"\n', 0o755)
+            words = " ".join([*(f"{name}='{value}'" for name, value in own.items()), sys.executable, "-B -m bpfcanon.review"])
+            write(self.tools / "bin" / REVIEW, f'#!/bin/sh\nexec env {words} "$@"\n', 0o755)
             self.settings |= own | {"PKG_CONFIG_PATH": f"{prefix}/lib/pkgconfig", "LD_LIBRARY_PATH": f"{prefix}/lib"}
 
 

@@ -1,17 +1,12 @@
-"""Compares the table of docs/RECIPES.md on what a signature covers with object files that differ in the change of a row.
+"""Compares the table of docs/RECIPES.md on what a signature covers with object files that differ in the change of a row."""
 
-The lines `code`, `types` and
-`key` of manifests say what is covered: the first two are digests of the canonical bytes.
-"""
-
-import re
 import subprocess
-import sys
 
 import pytest
 
 from tests import TOP
 from tests.command import SECONDS
+from tests.objects.elf_file import EXECINSTR, ElfFile
 from tests.reference.formats_page import cells
 
 # A field that is read by CO-RE, variables, a map, a license, a function, and a program. A macro chooses each.
@@ -56,16 +51,19 @@ def rows():
     return {first: others for first, *others in lines[2:]}
 
 
-def manifest_of(change, folder, environment):
-    """The digests of the instructions, of the types, and of all, of the object file with a change."""
+def covered(change, folder, bpfcanon, object_program):
+    """The canonical instructions, types and file of the object file with a change."""
     words = WORDS | (change if isinstance(change, dict) else {})
     flags = change if isinstance(change, list) else FLAGS
     (folder / "program.c").write_text(change if isinstance(change, str) else SOURCE)
     macros = [f"-D{name}={word}" for name, word in words.items()]
-    how = {"cwd": folder, "env": environment, "check": True, "timeout": SECONDS, "stdout": subprocess.PIPE, "text": True}
+    how = {"cwd": folder, "check": True, "timeout": SECONDS, "stdout": subprocess.PIPE}
     subprocess.run(["clang", "-mcpu=v3", "-O2", *flags, *macros, "-c", "program.c", "-o", "program.o"], **how)
-    text = subprocess.run([sys.executable, "-m", "bpfcanon.objects", "manifest", "program.o"], **how).stdout
-    return [re.findall(rf"^{kind}(?: .*)? (\w+)$", text, re.MULTILINE) for kind in ("code", "types", "key")]
+    file = ElfFile.read((folder / "program.o").read_bytes())
+    order = bpfcanon.Order.LITTLE if file.sign == "<" else bpfcanon.Order.BIG
+    code = [bpfcanon.insn_canon(it.content, order=order) for it in file.sections if it.flags & EXECINSTR and it.content]
+    types = bpfcanon.btf_canon(file.find(b".BTF").content)
+    return code, types, subprocess.run([object_program, "canon", "program.o"], **how).stdout
 
 
 def test_rows():
@@ -73,12 +71,12 @@ def test_rows():
 
 
 @pytest.mark.needs("clang")
-def test_changes(object_tool, tmp_path):
-    table, folder, environment = rows(), tmp_path, object_tool
-    first = manifest_of({}, folder, environment)
-    assert [len(it) for it in first] == [2, 1, 1], f"the first object file: its digests are {first}"
+def test_changes(bpfcanon, object_program, tmp_path):
+    table, how = rows(), (tmp_path, bpfcanon, object_program)
+    first = covered({}, *how)
+    assert len(first[0]) == 2
     for row, changes in ROWS.items():
         for change in changes:
-            second = manifest_of(change, folder, environment)
+            second = covered(change, *how)
             found = ["no" if before == after else "yes" for before, after in zip(first, second)]
             assert found == table[row], f"{row}: {change}: it is {found}, and the page says {table[row]}"

@@ -19,7 +19,7 @@ NAME = re.compile(r"`([A-Za-z_][\w:]*)`")
 ON_SOURCES = ["CHANGING", "CONTRACTS", "DECISIONS", "LIBRARY", "PROMISES", "STABILITY", "TRUST"]
 SOURCES = ["crates/**/*.rt", "crates/**/*.antt", "tests/**/*", "tools/*", "capi/*"]
 SOURCES += ["bindings/**/*.go", "bindings/**/*.py", "bindings/**/*.rs"]
-NO_NAMES = {"RT_JOBS", "proved_", "bpfcanon_proved_", "MayGoto", "bpf_object__open_file", "btf__parse"}
+NO_NAMES = {"RT_JOBS", "chdir", "proved_", "bpfcanon_proved_", "MayGoto", "bpf_object__open_file", "btf__parse"}
 # How functions of C begin that only the kit names.
 OF_KIT = ("libc::", "os::c::", "__")
 STANDS_FOR = re.compile(r"(?:^|/)(?:NAME|MODULE|FUNCTION)\b")

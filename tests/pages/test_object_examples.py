@@ -1,8 +1,8 @@
 """Runs the example of docs/LIBRARY.md over an object file in a language, as a program around it that is compiled if need be.
 
 clang and what the language needs have to be there: for C libbpf, for Rust the crate
-`object` as Debian's librust-object-dev installs it. The example of Python and that of Go have to print the key that docs/OBJECTS.md
-defines by the lines of the manifest, and the others to write the canonical types of the reference checker.
+`object` as Debian's librust-object-dev installs it. The example of Python and that of Go have to print the SHA-256 of the canonical file
+of the reference, and the others to write the canonical types of the reference checker.
 """
 
 import hashlib
@@ -16,7 +16,7 @@ from tests import TOP
 from tests.objects.elf_file import ElfFile
 from tests.command import SECONDS
 from tests.needs import need
-from tests.reference import btf_reference
+from tests.reference import btf_reference, object_reference
 
 OBJECT = "packet_filter.o"
 CRATES = "/usr/share/cargo/registry"
@@ -96,9 +96,8 @@ class Workplace:
         return (self.folder / "canonical.btf").read_bytes()
 
     def right_key(self):
-        """The SHA-256 of the first line of the manifest and of those after the key, and a newline."""
-        lines = self.run("python3", "-m", "bpfcanon.objects", "manifest", OBJECT).splitlines(keepends=True)
-        return hashlib.sha256(b"".join(lines[:1] + lines[3:])).hexdigest().encode() + b"\n"
+        """The SHA-256 of the canonical file, and a newline."""
+        return hashlib.sha256(object_reference.canonical((self.folder / OBJECT).read_bytes())).hexdigest().encode() + b"\n"
 
     def right_types(self):
         return btf_reference.canonical(bytes(ElfFile.read((self.folder / OBJECT).read_bytes()).find(b".BTF").content))

@@ -1,5 +1,5 @@
-"""Checks what docs/RECIPES.md, docs/INTEGRATIONS.md and docs/FORMATS.md say about other tools: the workflow for GitHub Actions, the parts
-of the key of an object file, the notation of llvm-objdump, and the BTF of gcc 12.
+"""Checks what docs/INTEGRATIONS.md and docs/FORMATS.md say about other tools: the workflow for GitHub Actions, the notation of llvm-objdump,
+and the BTF of gcc 12.
 """
 
 import json
@@ -14,32 +14,10 @@ from tests.command import SECONDS
 
 WORKFLOW = ".github/workflows/objects.yml"
 READ_YAML = ["/usr/bin/python3", "-c", "import json, sys, yaml; print(json.dumps(yaml.safe_load(sys.stdin)))"]
-VERSION = re.search(r'^#define BPFCANON_VERSION "(.*)"$', (TOP / "capi" / "bpfcanon.h").read_text(), re.MULTILINE)[1]
 # How LLVM 14 prints those instructions that it takes for others.
 BY_LLVM_14 = {"sdiv r1, r2": "r1 /= r2", "movsx8 r1, r2": "r1 = r2", "movsx8_32 r1, r2": "w1 = w2"}
 NOTATION = re.compile(r"^\| `(.*?)` \| `(.*?)` \|$", re.MULTILINE)
 
-# A field that is read by CO-RE, zeros, bytes of data, and a function in a second section. A macro chooses each.
-SOURCE = """
-struct host { union { int first; int second; }; int third; } __attribute__((preserve_access_index));
-int zeros[ZEROS];
-char text[] = TEXT;
-LINKAGE int helper(int number) { return number + ADDED; }
-__attribute__((section("socket"), used)) int reads(struct host *host)
-{
-	return host->FIELD + zeros[0] + text[0];
-}
-"""
-WORDS = {"FIELD": "first", "ZEROS": "4", "TEXT": '"a"', "ADDED": "1", "LINKAGE": ""}
-# What is changed, and the parts of the object whose lines in its manifest then differ.
-KEY_ROWS = [
-    ("the field of CO-RE", {"FIELD": "second"}, ["core .BTF.ext", "key"]),
-    ("the bytes of data", {"TEXT": '"b"'}, ["data .data", "key"]),
-    ("the code of a second section", {"ADDED": "2"}, ["code .text", "key"]),
-    ("the size of zeros", {"ZEROS": "8"}, ["key", "symbols", "types .BTF", "zeros .bss"]),
-    ("the binding of a symbol", {"LINKAGE": "__attribute__((weak))"}, ["key", "symbols"]),
-    ("the visibility of a symbol", {"LINKAGE": '__attribute__((visibility("hidden")))'}, ["key", "symbols"]),
-]
 # What gcc 12 writes for a line of C, and the cause by which it is refused.
 GCC_ROWS = [("char plain;", "IntWord"), ("signed char small;", "IntWord"), ("unsigned char byte;", None)]
 GCC_ROWS += [("struct host; struct host *host;", "NotZero"), ("union host; union host *host;", "NotZero")]
@@ -56,42 +34,25 @@ def compiled(words, source, name, folder):
 
 
 @pytest.mark.needs("clang", "python3-yaml")
-def test_workflow(object_tool, tmp_path):
-    """The commands of the workflow run as on GitHub, with stand-ins for the two that the reader has."""
+def test_workflow(object_program, tmp_path):
+    """The commands of the workflow run as on GitHub, with a stand-in for the tests that the reader has."""
     page = (TOP / "docs" / "INTEGRATIONS.md").read_text()
     text = re.search(rf"^<!-- file: {WORKFLOW} -->\n```yaml\n(.*?)^```$", page, re.MULTILINE | re.DOTALL)[1]
     workflow = json.loads(run(READ_YAML, tmp_path, input=text, check=True).stdout)
-    for tool in "bin/pip", "test_on_kernels":
-        path = tmp_path / tool
-        path.parent.mkdir(exist_ok=True)
-        path.write_text('#!/bin/sh\necho "${0##*/} $*" >> calls\n')
-        path.chmod(0o755)
+    (tmp_path / "third_party").mkdir()
+    (tmp_path / "third_party" / "bpfcanon_object").symlink_to(object_program)
+    (tmp_path / "test_on_kernels").write_text('#!/bin/sh\necho "$*" >> calls\n')
+    (tmp_path / "test_on_kernels").chmod(0o755)
     shutil.copy(TOP / "recipes" / "count.c", tmp_path)
-    settings = object_tool | {"PATH": f"{tmp_path / 'bin'}:{object_tool['PATH']}"}
     steps = [step for job in workflow["jobs"].values() for step in job["steps"]]
     assert workflow["defaults"]["run"]["shell"] == "bash"
     for script in [step["run"] for step in steps if "run" in step]:
-        done = run(["bash", "--noprofile", "--norc", "-eo", "pipefail", "-c", script], tmp_path, env=settings)
-        assert (done.returncode, done.stdout) == (0, ""), script
-    assert (tmp_path / "calls").read_text() == f"pip install third_party/bpfcanon-{VERSION}-*_x86_64.whl\ntest_on_kernels count.o\n"
+        done = run(["bash", "--noprofile", "--norc", "-eo", "pipefail", "-c", script], tmp_path)
+        assert done.returncode == 0, script
+    assert (tmp_path / "calls").read_text() == "count.o\n"
     cache = next(step["with"] for step in steps if step.get("uses", "").startswith("actions/cache@"))
     names = [cache["path"], *re.findall(r"'(.*?)'", cache["key"])]
     assert names and [name for name in names if not (tmp_path / name).is_file()] == []
-
-
-def manifest(words, object_tool, folder):
-    """The digest, or the size, of each part of an object file of these macros."""
-    macros = [f"-D{name}={word}" for name, word in (WORDS | words).items()]
-    compiled(["clang", "-target", "bpfel", "-mcpu=v3", "-O2", "-g", *macros], SOURCE, "object.o", folder)
-    lines = run(["bpfcanon-object", "manifest", "object.o"], folder, env=object_tool, check=True).stdout.splitlines()
-    return dict(line.rsplit(" ", 1) for line in lines if not line.startswith("file "))
-
-
-@pytest.mark.needs("clang")
-@pytest.mark.parametrize("what, words, wanted", KEY_ROWS, ids=[what for what, _, _ in KEY_ROWS])
-def test_key(object_tool, tmp_path, what, words, wanted):
-    first, second = manifest({}, object_tool, tmp_path), manifest(words, object_tool, tmp_path)
-    assert sorted(it for it in first | second if first.get(it) != second.get(it)) == wanted
 
 
 def objdump_lines(folder, tool, *flags):

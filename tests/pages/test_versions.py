@@ -55,13 +55,11 @@ def test_number():
 
 
 def test_forms():
-    """The numbers of the canonical form and of the lines of manifests, on STABILITY and where they are defined."""
+    """The number of the canonical form, on STABILITY and where it is defined."""
     page = joined(STABILITY)
     formats = re.findall(r"\*\*The canonical form is form (\d+)\.\*\*", joined(TOP / "docs" / "FORMATS.md"))
-    lines = re.findall(r"^FORM = (\d+)", (TOP / "bindings/python/bpfcanon/objects/keys.py").read_text(), re.MULTILINE)
-    for row, numbers in ("canonical form", formats), ("lines of manifests and keys of object files", lines):
-        said = re.findall(rf"\| {row} \| form (\d+) in all of (\d+)\.x", page)
-        assert said == [(it, MAJOR) for it in numbers] and said, f"{row}: it is {said}, and right is {numbers} in {MAJOR}.x"
+    said = re.findall(r"\| canonical form \| form (\d+) in all of (\d+)\.x", page)
+    assert said == [(it, MAJOR) for it in formats] and said, f"it is {said}, and right is {formats} in {MAJOR}.x"
 
 
 def test_languages():
@@ -87,8 +85,8 @@ def test_languages():
 RULE = "0.2.0 breaks nothing that works with 0.1.0."
 ADDS = {"none", "more", "corrected"}
 # What nobody relies on may change at any time, and what keys are made of never changes before the next major version.
-FREE = ["speed, memory, how the code is built"]
-FIXED = ["canonical bytes, listings, type listings", "lines of manifests, keys of object files"]
+FREE = ["what `bpfcanon-review` prints", "speed, memory, how the code is built"]
+FIXED = ["canonical bytes, listings, type listings", "canonical object files"]
 KEEPS = ["The canonical bytes of an input never change in form 1.", "An input that is accepted stays accepted.", RULE]
 
 

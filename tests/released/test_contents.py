@@ -193,7 +193,7 @@ def test_debs(release):
         with tarfile.open(fileobj=io.BytesIO(subprocess.run(["dpkg-deb", "--fsys-tarfile", path], **how).stdout)) as tar:
             files = {it.name.removeprefix("./"): it for it in tar.getmembers() if it.isreg()}
             executable = sorted(place for place, it in files.items() if it.mode != 0o644)
-            right = [it for it in ("usr/bin/bpfcanon", "usr/bin/bpfcanon-object") if it in files]
+            right = [it for it in ("usr/bin/bpfcanon", "usr/bin/bpfcanon-review") if it in files]
             assert executable == right and all(files[it].mode == 0o755 for it in right), f"{package}: other modes: {executable}"
             text = tar.extractfile(files[f"usr/share/doc/{package}/copyright"]).read().decode()
             lines = ["" if line == " ." else line[1:] for line in text.partition("License: bpfcanon\n")[2].splitlines()]

@@ -3,6 +3,7 @@
 import array
 import ctypes
 import doctest
+import importlib.util
 import mmap
 import os
 import pathlib
@@ -218,6 +219,7 @@ class Library(unittest.TestCase):
         self.assertEqual(ours | {name: k for k, name in enumerate(statuses)}, numbers)
 
 
+@unittest.skipUnless(importlib.util.find_spec("elftools"), "pyelftools")
 class Readme(unittest.TestCase):
     def test_the_examples_print_what_the_readme_shows(self) -> None:
         ran = doctest.testfile(str(PACKAGE / "README.md"), module_relative=False)

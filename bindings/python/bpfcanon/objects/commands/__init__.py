@@ -1,1 +1,0 @@
-"""The commands of bpfcanon-object, a module for each."""

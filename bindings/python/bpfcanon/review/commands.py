@@ -1,0 +1,95 @@
+"""The commands of bpfcanon-review. Each returns its status: 0, 1 for files that differ, or 2 if a file has no answer."""
+
+from __future__ import annotations
+
+import argparse
+import hashlib
+import sys
+from typing import Callable, Iterator, Optional, TypeVar
+
+import bpfcanon
+
+from .accepted import Accepted
+from .cli import complain
+from .compare import compare
+from .labels import printable
+from .limits import limited
+from .parts import parts
+
+STANDARD_INPUT = "-"
+MAX_FILE = 64 << 20  # bytes of a file that is accepted
+T = TypeVar("T")
+
+
+def show(options: argparse.Namespace) -> int:
+    """Write all that is in each file."""
+    return for_each(options.files, lambda path: shown(path, options))
+
+
+def shown(path: str, options: argparse.Namespace) -> Iterator[str]:
+    """Yield the parts of a file with an empty line after each, or for git why there are none: `git diff` ends at a command that fails."""
+    data = read(path)
+    if len(options.files) > 1:
+        yield f"==> {printable(path)} <=="
+    try:
+        found = Accepted(data)
+    except bpfcanon.Fault as fault:
+        if not options.textconv:
+            raise
+        yield from (f"refused: {fault}", f"{len(data)} bytes, SHA-256 {hashlib.sha256(data).hexdigest()}")
+        return
+    for part in parts(found):
+        yield from (part.title, *(it.text for it in part.lines), "")
+
+
+def list_keys(options: argparse.Namespace) -> int:
+    """Write the key of each file and a digest of each function, in lines as those of sha256sum."""
+    return for_each(options.files, listed)
+
+
+def listed(path: str) -> Iterator[str]:
+    """Yield the lines of a file."""
+    found = Accepted(read(path))
+    yield f"{found.key}  {printable(path)}"
+    yield from (f"{it.digest}  {printable(path)}:{it.name}" for it in parts(found) if it.kind == "function")
+
+
+def for_each(paths: list[str], lines: Callable[[str], Iterator[str]]) -> int:
+    """Write the lines of each file. One that has no answer doesn't end the work on others."""
+    status = 0
+    for path in paths:
+        found = attempt(path, lambda: "".join(f"{it}\n" for it in lines(path)))
+        status = 2 if found is None else status
+        sys.stdout.write(found or "")
+    return status
+
+
+def diff(options: argparse.Namespace) -> int:
+    """Write what differs between two files."""
+    old, new = (attempt(path, lambda: Accepted(read(path))) for path in (options.old, options.new))
+    if old is None or new is None:
+        return 2
+    found = compare(old, new)
+    changes = attempt(f"{options.old}, {options.new}", lambda: [*found])
+    for change in changes or ():
+        sys.stdout.writelines(f"{it}\n" for it in (change, *(() if options.brief else (f"  {line}" for line in change.lines))))
+    return 2 if changes is None else int(bool(changes))
+
+
+def attempt(name: str, call: Callable[[], T]) -> Optional[T]:
+    """Return what a call returns within the limits, or None after a message."""
+    try:
+        with limited():
+            return call()
+    except (bpfcanon.BpfcanonError, OSError, MemoryError) as error:
+        complain(error, name)
+        return None
+
+
+def read(path: str) -> bytes:
+    """Return the contents of a file or of standard input, at most a byte more than an accepted file has. Raises OSError."""
+    with open(path if path != STANDARD_INPUT else 0, "rb") as file:
+        return file.read(MAX_FILE + 1)
+
+
+COMMANDS = {"show": show, "diff": diff, "list": list_keys}

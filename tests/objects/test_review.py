@@ -1,0 +1,238 @@
+"""What bpfcanon-review shows of object files: a canonical file has one text, and each other one another."""
+
+from __future__ import annotations
+
+import hashlib
+import importlib
+import os
+import re
+import resource
+import subprocess
+import sys
+from dataclasses import dataclass
+from pathlib import Path
+from typing import Any, Callable
+
+import pytest
+
+from tests import TOP
+from tests.command import SECONDS
+from tests.needs import need
+from tests.objects.bases import all_bases
+from tests.objects.changes import Base, changed
+from tests.objects.elf_file import ElfFile
+from tests.objects.known import DIFFERENCES, Known, objects_of
+from tests.reference import object_reference
+
+COMPILED = TOP / "bindings" / "python" / "tests" / "compiled"
+ORDERS = ("little", "big")
+FEWEST = 3  # of ten changed objects are accepted: fewer would test little
+pytestmark = pytest.mark.needs("elftools")
+
+
+def compiled(name: str, order: str) -> bytes:
+    return (COMPILED / f"{name}.{order}.elf").read_bytes()
+
+
+@dataclass(frozen=True)
+class Review:
+    """The package, over the C library."""
+
+    package: Any
+
+    def module(self, name: str) -> Any:
+        return importlib.import_module(f"bpfcanon.review.{name}")
+
+    def accepted(self, data: bytes) -> Any:
+        """The object file, or None if it is refused."""
+        try:
+            return self.module("accepted").Accepted(data)
+        except self.package.Fault:
+            return None
+
+    def lines(self, object: Any, title: str) -> list[str]:
+        """The lines of a part."""
+        (found,) = (it for it in self.module("parts").parts(object) if it.title == title)
+        return [it.text.strip() for it in found.lines]
+
+    def text(self, object: Any) -> str:
+        """All that is shown except the key, which would hide what is missing."""
+        lines = (line for it in self.module("parts").parts(object) for line in (it.title, *(one.text for one in it.lines)))
+        return "\n".join(it for it in lines if not it.startswith("\tkey="))
+
+    def changes(self, old: Any, new: Any) -> dict[str, list[str]]:
+        """The lines of each change."""
+        return {str(it): list(it.lines) for it in self.module("compare").compare(old, new)}
+
+
+@pytest.fixture(scope="session")
+def review(bpfcanon: Any) -> Review:
+    return Review(bpfcanon)
+
+
+@pytest.fixture(scope="session")
+def bases(tmp_path_factory: pytest.TempPathFactory) -> list[Base]:
+    need("cc", "clang", "llvm-strip")
+    return all_bases(tmp_path_factory.mktemp("objects"))
+
+
+@pytest.mark.objects
+def test_changed_objects(bases: list[Base], review: Review, request: pytest.FixtureRequest) -> None:
+    """Two texts are equal exactly if the canonical files are."""
+    count, seed = (request.config.getoption(it) for it in ("count", "seed"))
+    canonical: dict[str, bytes] = {}
+    for number in range(count):
+        object = review.accepted(changed(bases, seed, number).content)
+        if object:
+            assert canonical.setdefault(review.text(object), object.canonical) == object.canonical, number
+    assert len(set(canonical.values())) == len(canonical) >= count * FEWEST // 10
+
+
+@pytest.mark.objects
+@pytest.mark.parametrize("known", DIFFERENCES, ids=[it.name for it in DIFFERENCES])
+def test_known_difference(known: Known, bases: list[Base], review: Review) -> None:
+    """What libbpf tells from its base is refused, or differs in more than the key."""
+    base, other = map(review.accepted, objects_of(bases, known))
+    assert base
+    assert other is None or review.text(base) != review.text(other) and review.changes(base, other)
+
+
+@pytest.fixture(params=ORDERS)
+def order(request: pytest.FixtureRequest) -> str:
+    return str(request.param)
+
+
+@pytest.fixture
+def flows(order: str, review: Review) -> Any:
+    return review.accepted(compiled("flows", order))
+
+
+def test_function(flows: Any, review: Review) -> None:
+    """As llvm-objdump -dr and readelf show it: relocations, targets of jumps, calls and CO-RE relocations."""
+    assert review.lines(flows, "function xdp:count_flows")[:12] == [
+        "ldxw r2, [r1+0]  ; type func count_flows  ; core byte_off struct host 0:0",
+        "stxw [r10-8], r2",
+        "ldxw r1, [r1+12]  ; core byte_off struct host 0:1:2",
+        "stxw [r10-4], r1",
+        "mov r2, r10",
+        "add r2, -8",
+        "lddw r1, 0  ; R_BPF_64_64 flows",
+        "call 1",
+        "jeq r0, 0, L2",
+        "mov r1, 1",
+        "atomic_add [r0+0], r1",
+        "L1:",
+    ]
+    assert "call_local -1  ; R_BPF_64_32 <.text> over" in review.lines(flows, "function xdp:count_flows")
+
+
+def test_data(flows: Any, review: Review) -> None:
+    assert review.lines(flows, "data .data:label") == ["66 6c 6f 77 73 00  |flows.|"]
+    assert review.lines(flows, "data .data:known")[0] == "16 bytes of zeros"
+
+
+def test_types(flows: Any, review: Review) -> None:
+    """Types refer to others by what these are called."""
+    lines = review.lines(flows, "type struct host")
+    assert lines == [
+        "struct name=host size=20",
+        "member name=id target=u32 bit_offset=0 width=0",
+        "member name=counts target=u32[4] bit_offset=32 width=0",
+    ]
+
+
+def test_one_type_more(review: Review) -> None:
+    """It changes the text of no other type, although it changes their IDs."""
+    btf, encode = importlib.import_module("bpfcanon.types"), review.package.btf_encode
+    number = btf.Int("int", 4, btf.Encoding.SIGNED, 0, 32)
+    texts = []
+    for first in 0, 1:
+        types = [btf.Float("double", 8)] * first + [number, btf.Ptr(first + 3), btf.Struct("s", 8, [btf.Member("m", first + 2, 0, 0)])]
+        notation = review.module("notation").Notation(review.package.Btf(encode(types)))
+        texts.append([(notation.label(id), *notation.lines(id)) for id in range(first + 1, first + 4)])
+    assert texts[0] == texts[1]
+
+
+def test_types_round_a_circle(review: Review) -> None:
+    btf = importlib.import_module("bpfcanon.types")
+    notation = review.module("notation").Notation(review.package.Btf(review.package.btf_encode([btf.Const(1), btf.Const(1)])))
+    assert notation.label(1) != notation.label(2)
+
+
+def test_source_lines(order: str, flows: Any, review: Review) -> None:
+    """A changed constant of the program has its source line, on both sides."""
+    found = review.changes(flows, review.accepted(compiled("changed", order)))
+    lines = [it for it in found["changed function xdp:count_flows"] if it[0] in "-+"]
+    assert [re.sub(r"\s+", " ", it) for it in lines] == ["- mov32 r0, 2 ; ./flows.c:48: total++;", "+ mov32 r0, 1 ; ./flows.c:48: total++;"]
+    assert "changed data .rodata:limit" in found
+    assert review.changes(flows, flows) == {}
+
+
+@pytest.fixture(scope="session")
+def run(prefix: Path) -> Callable[..., subprocess.CompletedProcess[bytes]]:
+    """Runs the command."""
+    own = {"BPFCANON_LIBRARY": f"{prefix}/lib/libbpfcanon.so.0", "PYTHONPATH": f"{TOP}/bindings/python"}
+    line = [sys.executable, "-B", "-m", "bpfcanon.review"]
+    return lambda *words, **how: subprocess.run([*line, *words], **{"env": os.environ | own, "capture_output": True, "timeout": SECONDS} | how)
+
+
+Run = Callable[..., "subprocess.CompletedProcess[bytes]"]
+FLOWS, CHANGED = (COMPILED / f"{name}.little.elf" for name in ("flows", "changed"))
+
+
+def test_statuses(run: Run, tmp_path: Path) -> None:
+    """0 for done and for the same, 1 for different, 2 for no answer, which doesn't end the work on other files."""
+    (tmp_path / "cut").write_bytes(FLOWS.read_bytes()[:100])
+    rows = [("diff", FLOWS, FLOWS), ("diff", FLOWS, CHANGED), ("diff", FLOWS, "none"), ("show", FLOWS), ("list", "cut", FLOWS), ("list",)]
+    done = [run(*words, cwd=tmp_path) for words in rows]
+    assert [it.returncode for it in done] == [0, 1, 2, 0, 2, 2]
+    assert [bool(it.stderr) for it in done] == [False, False, True, False, True, True]
+    assert done[0].stdout == b"" and done[4].stdout.count(b"flows.little.elf") == 3
+    assert done[2].stderr == b"bpfcanon-review: none: No such file or directory\n"
+
+
+def test_list(run: Run) -> None:
+    """The key is the SHA-256 of the canonical file."""
+    done = run("list", "-", input=FLOWS.read_bytes())
+    key = hashlib.sha256(object_reference.canonical(FLOWS.read_bytes())).hexdigest()
+    first, *functions = done.stdout.decode().splitlines()
+    assert first == f"{key}  -"
+    assert [it.partition("  ")[2] for it in functions] == ["-:.text:over", "-:xdp:count_flows"]
+
+
+def test_textconv(run: Run, tmp_path: Path) -> None:
+    """A file that is refused has a text, which depends on its bytes."""
+    (tmp_path / "picture").write_bytes(b"a picture")
+    done = run("show", "--textconv", "picture", cwd=tmp_path)
+    digest = hashlib.sha256(b"a picture").hexdigest()
+    assert done.returncode == 0 and done.stdout.decode().splitlines()[1:] == [f"9 bytes, SHA-256 {digest}"]
+    assert run("show", "picture", cwd=tmp_path).returncode == 2
+
+
+def test_output_is_printable(run: Run) -> None:
+    """No name of a file is acted on by a terminal."""
+    file = ElfFile.read(FLOWS.read_bytes())
+    name = file.add_string(file.symbol_names, b"\x1b[31m\nred\xff")
+    symbols = file.symbols()
+    symbols[-1].name = name
+    file.set_symbols(symbols)
+    done = run("show", "-", input=bytes(file.write()))
+    assert done.returncode == 0 and b'"\\u001b[31m\\nred\\udcff"' in done.stdout and b"\x1b" not in done.stdout
+
+
+def test_output_that_fails(run: Run) -> None:
+    with open("/dev/full", "wb") as full:
+        done = run("show", FLOWS, capture_output=False, stdout=full, stderr=subprocess.PIPE)
+    assert (done.returncode, done.stderr) == (2, b"bpfcanon-review: standard output: No space left on device\n")
+
+
+def test_limits(review: Review, monkeypatch: pytest.MonkeyPatch) -> None:
+    """An answer that takes too long, or too much memory, ends, and what follows has the memory that it had."""
+    limits, before = review.module("limits"), resource.getrlimit(resource.RLIMIT_AS)
+    monkeypatch.setattr(limits, "SECONDS", 0.05)
+    with pytest.raises(TimeoutError), limits.limited():
+        while True:
+            pass
+    with pytest.raises(MemoryError), limits.limited():
+        bytearray(limits.MEMORY)
+    assert resource.getrlimit(resource.RLIMIT_AS) == before
