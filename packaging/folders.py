@@ -20,7 +20,7 @@ AT_TOP = ["CHANGELOG.md", "LICENSE", "PROVED.txt", "SECURITY.md", "THIRD-PARTY"]
 # The parts of testdata/README.md on the vectors.
 VECTOR_PARTS = ("## Vectors\n", "## Compiled programs\n", "## Object files\n")
 # The files of testdata/ that the examples of the Go module and its README read.
-GO_EXAMPLES = ["flow_table.c", "flow_table.big.btf", "flow_table.little.btf", "pass.c"]
+GO_EXAMPLES = ["flow_table.c", "flow_table.big.btf", "flow_table.little.btf", "pass.c", "objects/pass.little.debug.o"]
 
 
 def add_documents(folder, documents):

@@ -6,8 +6,8 @@ import (
 	"bpfcanon/internal/capi"
 )
 
-// A Cause is the cause of a fault: an InsnCause, a LineCause or a BTFCause. As an error it is a
-// sentence that says what is wrong. Each cause is its own sentinel:
+// A Cause is the cause of a fault: an InsnCause, a LineCause, a BTFCause or an ObjectCause. As an error
+// it is a sentence that says what is wrong. Each cause is its own sentinel:
 // errors.Is(err, bpfcanon.InsnOpcode).
 type Cause interface {
 	error
@@ -168,6 +168,17 @@ func (c BTFCause) String() string {
 // Error returns a sentence that explains the cause, for example "the version is not 1".
 func (c BTFCause) Error() string {
 	return nameOr(capi.BTFCauseText(uint32(c)), "BTFCause", uint32(c))
+}
+
+// String returns the name of the cause, for example "SectionCut", or "ObjectCause(153)" for a number
+// without a name.
+func (c ObjectCause) String() string {
+	return nameOr(capi.ObjectCauseName(uint32(c)), "ObjectCause", uint32(c))
+}
+
+// Error returns a sentence that explains the cause, for example "the file isn't for BPF".
+func (c ObjectCause) Error() string {
+	return nameOr(capi.ObjectCauseText(uint32(c)), "ObjectCause", uint32(c))
 }
 
 // nameOr returns the name, or the type with the number if the library has no name for it.

@@ -15,29 +15,31 @@ import (
 func TestCausesAreThoseOfTheHeader(t *testing.T) {
 	for _, kind := range []struct {
 		first, last bpfcanon.Cause
-		count       int
+		start, end  int
 		cause       func(number int) bpfcanon.Cause
 		names       [2]string
 	}{
-		{bpfcanon.InsnTruncated, bpfcanon.InsnNextImm, capi.InsnCauses,
+		{bpfcanon.InsnTruncated, bpfcanon.InsnNextImm, 1, capi.InsnCauses,
 			func(n int) bpfcanon.Cause { return bpfcanon.InsnCause(n) }, [2]string{"Truncated", "NextImm"}},
-		{bpfcanon.LineChar, bpfcanon.LineRange, capi.LineCauses,
+		{bpfcanon.LineChar, bpfcanon.LineRange, 1, capi.LineCauses,
 			func(n int) bpfcanon.Cause { return bpfcanon.LineCause(n) }, [2]string{"Char", "Range"}},
-		{bpfcanon.BTFShortHeader, bpfcanon.BTFComponent, capi.BTFCauses,
+		{bpfcanon.BTFShortHeader, bpfcanon.BTFComponent, 1, capi.BTFCauses,
 			func(n int) bpfcanon.Cause { return bpfcanon.BTFCause(n) }, [2]string{"ShortHeader", "Component"}},
+		{bpfcanon.ObjectFileTooLarge, bpfcanon.ObjectResultTooLarge, 101, capi.ObjectCauses,
+			func(n int) bpfcanon.Cause { return bpfcanon.ObjectCause(n) }, [2]string{"FileTooLarge", "ResultTooLarge"}},
 	} {
-		if kind.first != kind.cause(1) || kind.last != kind.cause(kind.count) {
-			t.Errorf("%v to %v, and the header has %d", kind.first, kind.last, kind.count)
+		if kind.first != kind.cause(kind.start) || kind.last != kind.cause(kind.end) {
+			t.Errorf("%v to %v, and the header has %d to %d", kind.first, kind.last, kind.start, kind.end)
 		}
 		if kind.first.String() != kind.names[0] || kind.last.String() != kind.names[1] {
 			t.Errorf("%v to %v, want %v", kind.first, kind.last, kind.names)
 		}
-		for n := 1; n <= kind.count; n++ {
+		for n := kind.start; n <= kind.end; n++ {
 			if cause := kind.cause(n); strings.Contains(cause.String(), "(") || len(cause.Error()) < 10 {
 				t.Errorf("%d has the name %q and the sentence %q", n, cause.String(), cause.Error())
 			}
 		}
-		if got := kind.cause(kind.count + 1).String(); !strings.HasSuffix(got, fmt.Sprintf("Cause(%d)", kind.count+1)) {
+		if got := kind.cause(kind.end + 1).String(); !strings.HasSuffix(got, fmt.Sprintf("Cause(%d)", kind.end+1)) {
 			t.Errorf("%q for the number after the last", got)
 		}
 	}

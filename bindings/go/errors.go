@@ -31,7 +31,7 @@ func (e *UnknownRecordError) Error() string {
 // A FaultError is the first fault of an input. errors.Is compares it with a cause, and errors.As
 // finds its offset or line.
 type FaultError struct {
-	// Cause is an InsnCause, a LineCause or a BTFCause.
+	// Cause is an InsnCause, a LineCause, a BTFCause or an ObjectCause.
 	Cause Cause
 	// Pos is the offset of the fault in bytes. It is 0 for a fault in a listing, which has a line.
 	Pos uint64

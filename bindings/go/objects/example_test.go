@@ -1,70 +1,58 @@
 package objects_test
 
 import (
-	"debug/elf"
+	"bytes"
 	"errors"
 	"fmt"
 	"log"
+	"os"
 
+	"bpfcanon"
 	"bpfcanon/objects"
 )
 
-// program returns an object file with a function and a constant, as a compiler writes one.
-func program(constant string) []byte {
-	return withParts(part{name: ".rodata", content: constant, flags: elf.SHF_ALLOC}).bytes()
+// object returns an object file that clang made, with debugging information.
+func object() []byte {
+	data, err := os.ReadFile("../../../testdata/objects/pass.little.debug.o")
+	if err != nil {
+		log.Fatal(err)
+	}
+	return data
 }
 
-// The key of an object file.
-func ExampleRead() {
-	file, err := objects.Read(program("\x01\x00\x00\x00"))
+// The canonical file of an object file has no debugging information, and is its own canonical file.
+func ExampleCanonical() {
+	data := object()
+	canonical, err := objects.Canonical(data)
 	if err != nil {
 		log.Fatal(err)
 	}
-	key, err := file.Key()
-	if err != nil {
-		log.Fatal(err)
-	}
-	fmt.Println(len(key.String()))
-	// Output: 64
+	again, err := objects.Canonical(canonical)
+	fmt.Println(len(data), len(canonical), bytes.Equal(again, canonical), err)
+	// Output: 2928 856 true <nil>
 }
 
-// The manifest of an object file is signed, and later compared with the file that is there.
-func ExampleParseManifests() {
-	file, err := objects.Read(program("\x01\x00\x00\x00"))
+// The key of an object file, under which a cache stores what was made of it.
+func ExampleKey() {
+	key, err := objects.Key(object())
 	if err != nil {
 		log.Fatal(err)
 	}
-	manifest, err := file.Manifest("xdp.o")
-	if err != nil {
-		log.Fatal(err)
-	}
-	signed, err := objects.ParseManifests([]byte(manifest.Text()))
-	if err != nil {
-		log.Fatal(err)
-	}
-	found, err := objects.Read(program("\x02\x00\x00\x00"))
-	if err != nil {
-		log.Fatal(err)
-	}
-	other, err := found.Manifest(signed[0].File)
-	if err != nil {
-		log.Fatal(err)
-	}
-	fmt.Printf("%s: %q differ\n", signed[0].File, signed[0].Differing(other))
-	// Output: xdp.o: ["data .rodata"] differ
+	fmt.Printf("%x\n", key)
+	// Output: 1da1577a899346493beb3c14ae1f603919f1b6733049eaf48e6276c3fd6f1f9e
 }
 
-// A file that is refused has a cause and a place.
-func ExampleRefused() {
-	_, err := objects.Read(program("")[:100])
-	var refused *objects.Refused
-	if errors.As(err, &refused) {
-		fmt.Println(refused.Cause.String(), refused.Offset)
+// A file that is refused has a cause and an offset.
+func ExampleCheck() {
+	err := objects.Check(object()[:100])
+	var fault *bpfcanon.FaultError
+	if errors.As(err, &fault) {
+		fmt.Println(fault.Pos, fault.Cause)
 	}
-	if errors.Is(err, objects.SectionTable) {
+	if errors.Is(err, bpfcanon.ObjectSectionTable) {
 		fmt.Println("the file is cut")
 	}
 	// Output:
-	// SectionTable 40
+	// 40 the section header table isn't inside the file
 	// the file is cut
 }

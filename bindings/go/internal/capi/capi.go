@@ -47,11 +47,19 @@ const (
 // BTFMax is the length of the longest BTF that can be valid.
 const BTFMax = C.BPFCANON_BTF_MAX
 
-// How many causes of each kind the header declares. Their numbers start at 1.
+// ObjectMax is the length of the longest object file that is accepted, and KeySize that of a key.
 const (
-	InsnCauses = C.BPFCANON_INSN_CAUSES
-	LineCauses = C.BPFCANON_LINE_CAUSES
-	BTFCauses  = C.BPFCANON_BTF_CAUSES
+	ObjectMax = C.BPFCANON_OBJECT_MAX
+	KeySize   = C.BPFCANON_KEY_SIZE
+)
+
+// The last number of the causes of each kind that the header declares. They start at 1, and those of
+// object files at 101.
+const (
+	InsnCauses   = C.BPFCANON_INSN_CAUSES
+	LineCauses   = C.BPFCANON_LINE_CAUSES
+	BTFCauses    = C.BPFCANON_BTF_CAUSES
+	ObjectCauses = C.BPFCANON_OBJECT_CAUSES
 )
 
 // HeaderVersion is the version of the header that this package was compiled with.
@@ -135,4 +143,20 @@ func InsnRead(to Order, listing, out []byte) Answer {
 func InsnFront(order, to Order, piece, out []byte) Answer {
 	return answer(C.bpfcanon_insn_front(C.uint32_t(order), C.uint32_t(to),
 		start(piece), size(piece), start(out), size(out)))
+}
+
+func ObjectCanon(object, out []byte) Answer {
+	return answer(C.bpfcanon_object_canon(start(object), size(object), start(out), size(out)))
+}
+
+func ObjectSame(first, second []byte) Answer {
+	return answer(C.bpfcanon_object_same(start(first), size(first), start(second), size(second)))
+}
+
+func ObjectKey(object, out []byte) Answer {
+	return answer(C.bpfcanon_object_key(start(object), size(object), start(out), size(out)))
+}
+
+func ObjectCheck(object []byte) Answer {
+	return answer(C.bpfcanon_object_check(start(object), size(object)))
 }

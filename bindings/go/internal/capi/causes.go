@@ -42,3 +42,11 @@ func BTFCauseName(cause uint32) string {
 func BTFCauseText(cause uint32) string {
 	return C.GoString(C.bpfcanon_btf_cause_text(C.uint32_t(cause)))
 }
+
+func ObjectCauseName(cause uint32) string {
+	return C.GoString(C.bpfcanon_object_cause_name(C.uint32_t(cause)))
+}
+
+func ObjectCauseText(cause uint32) string {
+	return C.GoString(C.bpfcanon_object_cause_text(C.uint32_t(cause)))
+}
