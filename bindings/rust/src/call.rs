@@ -55,27 +55,31 @@ pub(crate) fn comparison<C: CauseNumber>(answer: &sys::Answer) -> Result<bool, E
     }
 }
 
-/// Declares an enum of causes by their names and numbers.
+/// Declares an enum of causes by their names and numbers. Behind these it can have a variant for the
+/// causes of another kind, whose numbers are the smaller ones.
 macro_rules! causes {
     ($(#[$about:meta])* $kind:ident, $unit:literal, $name:path, $text:path;
-     $($(#[$doc:meta])* $variant:ident = $number:literal,)+) => {
+     $($(#[$doc:meta])* $variant:ident = $number:literal,)+
+     $(; $(#[$other_doc:meta])* $other:ident($other_kind:path) below $first:literal)?) => {
         $(#[$about])*
         #[derive(Clone, Copy, Debug, PartialEq, Eq, Hash)]
         #[non_exhaustive]
         pub enum $kind {
             $($(#[$doc])* $variant,)+
+            $($(#[$other_doc])* $other($other_kind),)?
             /// A cause that only a newer library has, by its number in `bpfcanon.h`.
             Other(u32),
         }
 
         impl $kind {
-            /// All causes that this version of the crate knows.
+            /// All causes with numbers of their own that this version of the crate knows.
             pub const ALL: &'static [$kind] = &[$($kind::$variant),+];
 
             /// Returns the number of the cause in `bpfcanon.h`.
             pub fn number(self) -> u32 {
                 match self {
                     $($kind::$variant => $number,)+
+                    $($kind::$other(cause) => cause.number(),)?
                     $kind::Other(number) => number,
                 }
             }
@@ -101,6 +105,7 @@ macro_rules! causes {
             fn of_number(number: u32) -> $kind {
                 match number {
                     $($number => $kind::$variant,)+
+                    $(_ if number < $first => $kind::$other(<$other_kind>::of_number(number)),)?
                     _ => $kind::Other(number),
                 }
             }

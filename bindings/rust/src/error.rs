@@ -38,7 +38,8 @@ impl<C: CauseNumber> fmt::Display for Fault<C> {
 impl<C: CauseNumber> std::error::Error for Fault<C> {}
 
 /// The error of a call, with the causes `C` of faults: [`insn::Error`](crate::insn::Error),
-/// [`insn::ListingError`](crate::insn::ListingError) or [`btf::Error`](crate::btf::Error).
+/// [`insn::ListingError`](crate::insn::ListingError), [`btf::Error`](crate::btf::Error) or
+/// [`object::Error`](crate::object::Error).
 #[derive(Clone, Copy, Debug, PartialEq, Eq, Hash)]
 #[non_exhaustive]
 pub enum Error<C> {

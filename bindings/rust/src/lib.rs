@@ -1,11 +1,13 @@
 //! Canonical bytes and typed values of BPF instructions ([RFC 9669]) and of [BTF], the types of BPF
-//! programs.
+//! programs, and canonical BPF object files.
 //!
 //! The same instructions can be encoded in either byte order, and the same types can also lay out
 //! their strings in many ways. [`insn::canon`] and [`btf::canon`] return canonical bytes: two
 //! inputs without a fault have the same instructions or types if and only if their canonical bytes
 //! are equal. For every other input the error is an [`Error::Fault`] with the position and the
 //! cause of its first fault.
+//!
+//! Object files have canonical files, which are object files themselves: [`object::canonical`].
 //!
 //! [`insn::Program`] and [`btf::Btf`] decode an input into values, for programs that inspect or
 //! compare it: [`insn::Insn`], [`btf::Type`] and [`btf::Item`]. [`insn::encode`] and
@@ -46,6 +48,7 @@ pub mod btf;
 mod call;
 mod error;
 pub mod insn;
+pub mod object;
 mod records;
 mod sys;
 

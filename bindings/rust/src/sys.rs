@@ -55,6 +55,13 @@ extern "C" {
         second_order: u32, second: *const u8, second_len: usize) -> Answer;
     pub(crate) fn bpfcanon_insn_show(
         order: u32, bytes: *const u8, len: usize, out: *mut c_char, room: usize) -> Answer;
+    pub(crate) fn bpfcanon_object_canon(
+        bytes: *const u8, len: usize, out: *mut u8, room: usize) -> Answer;
+    pub(crate) fn bpfcanon_object_check(bytes: *const u8, len: usize) -> Answer;
+    pub(crate) fn bpfcanon_object_key(
+        bytes: *const u8, len: usize, out: *mut u8, room: usize) -> Answer;
+    pub(crate) fn bpfcanon_object_same(
+        first: *const u8, first_len: usize, second: *const u8, second_len: usize) -> Answer;
     pub(crate) fn bpfcanon_version() -> *const c_char;
     pub(crate) fn bpfcanon_insn_cause_name(cause: u32) -> *const c_char;
     pub(crate) fn bpfcanon_insn_cause_text(cause: u32) -> *const c_char;
@@ -62,4 +69,6 @@ extern "C" {
     pub(crate) fn bpfcanon_line_cause_text(cause: u32) -> *const c_char;
     pub(crate) fn bpfcanon_btf_cause_name(cause: u32) -> *const c_char;
     pub(crate) fn bpfcanon_btf_cause_text(cause: u32) -> *const c_char;
+    pub(crate) fn bpfcanon_object_cause_name(cause: u32) -> *const c_char;
+    pub(crate) fn bpfcanon_object_cause_text(cause: u32) -> *const c_char;
 }

@@ -2,7 +2,7 @@
 //! header and threads.
 
 use bpfcanon::insn::Groups;
-use bpfcanon::{btf, insn, Order};
+use bpfcanon::{btf, insn, object, Order};
 use std::{error, fs, io};
 
 const EXIT: [u8; 8] = [0x95, 0, 0, 0, 0, 0, 0, 0];
@@ -156,8 +156,10 @@ fn number_in_header(name: &str) -> usize {
 }
 
 #[test]
-fn the_longest_btf_is_that_of_the_header() {
+fn lengths_are_those_of_the_header() {
     assert_eq!(btf::MAX, number_in_header("BTF_MAX"));
+    assert_eq!(object::MAX, number_in_header("OBJECT_MAX"));
+    assert_eq!(object::KEY_SIZE, number_in_header("KEY_SIZE"));
 }
 
 /// The variants are spelled as the library's names, and neither the header nor the library has
@@ -178,6 +180,11 @@ fn the_crate_has_every_cause_of_the_library() {
     }
     assert_eq!(insn::Cause::Other(insn::Cause::ALL.len() as u32 + 1).name(), None);
     assert_eq!(insn::ListingCause::Other(insn::ListingCause::ALL.len() as u32 + 1).name(), None);
+    for (at, it) in object::Cause::ALL.iter().enumerate() {
+        assert_eq!((it.number() as usize, it.name()), (at + 101, Some(&*format!("{it:?}"))));
+    }
+    assert_eq!(object::Cause::ALL.len() + 100, number_in_header("OBJECT_CAUSES"));
+    assert_eq!(object::Cause::Types(btf::Cause::Vlen).name(), Some("Vlen"));
     let next = btf::Cause::Other(btf::Cause::ALL.len() as u32 + 1);
     assert_eq!((next.name(), next.description()), (None, None));
     assert_eq!(next.to_string(), format!("cause {}", next.number()));

@@ -1,0 +1,78 @@
+//! The rows of testdata/objects/objects.tsv; testdata/README.md has the columns.
+
+use bpfcanon::object::{self, Cause, Error};
+use std::fmt::Debug;
+use std::fs;
+
+/// A row: its file, the bytes of that, and the other fields.
+struct Row {
+    file: String,
+    data: Vec<u8>,
+    fields: Vec<String>,
+}
+
+fn rows(kind: &str) -> Vec<Row> {
+    let folder = concat!(env!("CARGO_MANIFEST_DIR"), "/../../testdata/objects");
+    let table = fs::read_to_string(format!("{folder}/objects.tsv")).unwrap();
+    let lines = table.lines().map(|line| line.split('\t').map(String::from).collect::<Vec<_>>());
+    let found: Vec<Row> = lines
+        .filter(|fields| fields[0] == kind)
+        .map(|fields| Row {
+            file: fields[1].clone(),
+            data: fs::read(format!("{folder}/{}", fields[1])).unwrap(),
+            fields: fields[2..].to_vec(),
+        })
+        .collect();
+    assert!(!found.is_empty(), "no row of {kind}");
+    found
+}
+
+#[test]
+fn accepted_files_have_their_keys() {
+    let rows = rows("object");
+    let mut before = rows.last().unwrap();
+    for row in &rows {
+        let key = object::key(&row.data).unwrap();
+        let digits: String = key.iter().map(|byte| format!("{byte:02x}")).collect();
+        assert_eq!(digits, row.fields[0], "{}", row.file);
+        let canonical = object::canonical(&row.data).unwrap();
+        assert_eq!(object::key(&canonical), Ok(key), "{}", row.file);
+        assert_eq!(object::canonical(&canonical).as_ref(), Ok(&canonical), "{}", row.file);
+        assert_eq!(object::check(&row.data), Ok(()), "{}", row.file);
+        assert_eq!(object::same(&canonical, &row.data), Ok(true), "{}", row.file);
+        let is_same = before.fields[0] == row.fields[0];
+        assert_eq!(object::same(&before.data, &row.data), Ok(is_same), "{}", row.file);
+        before = row;
+    }
+}
+
+/// A fault as in a row: whether it is in the second of two files, its offset, and its cause.
+fn fault<T: Debug>(result: Result<T, Error>) -> (bool, String, String) {
+    let fault = match result {
+        Err(Error::Fault(fault)) => fault,
+        other => panic!("no fault, but {other:?}"),
+    };
+    let name = fault.cause().name().unwrap();
+    let cause = match fault.cause() {
+        Cause::Types(_) => format!("Types({name})"),
+        _ => name.to_string(),
+    };
+    (fault.is_in_second(), fault.position().to_string(), cause)
+}
+
+#[test]
+fn refused_files_have_their_faults() {
+    let good = &rows("object")[0].data;
+    for Row { file, mut data, fields } in rows("object-fault") {
+        if let Ok(length) = fields[0].parse() {
+            data.resize(length, 0);
+        }
+        let first = (false, fields[1].clone(), fields[2].clone());
+        assert_eq!(fault(object::canonical(&data)), first, "{file}");
+        assert_eq!(fault(object::key(&data)), first, "{file}");
+        assert_eq!(fault(object::check(&data)), first, "{file}");
+        assert_eq!(fault(object::same(&data, good)), first, "{file}");
+        let second = (true, fields[1].clone(), fields[2].clone());
+        assert_eq!(fault(object::same(good, &data)), second, "{file}");
+    }
+}
