@@ -24,7 +24,7 @@ from typing import TYPE_CHECKING
 from . import _library
 from ._library import Buffer
 from .btf import btf_canon, btf_check, btf_same, btf_show
-from .causes import BtfCause, Cause, Group, InsnCause, LineCause, Order, OtherCause
+from .causes import BtfCause, Cause, Group, InsnCause, LineCause, ObjectCause, Order, OtherCause
 from .errors import BpfcanonError, EncodeError, EncodeTypeError, Fault, NoSuchType, OrderError, OutOfMemory, TypeCircle
 from .errors import UnknownCause, UnknownRecord
 from .insn import Front, insn_canon, insn_front, insn_groups, insn_read, insn_same, insn_show, insn_stream
@@ -45,6 +45,7 @@ __all__ = [
     "InsnCause",
     "LineCause",
     "NoSuchType",
+    "ObjectCause",
     "Order",
     "OrderError",
     "OtherCause",

@@ -65,8 +65,12 @@ _CALLS: dict[str, list[list[Any]]] = {
     "insn_read": [_ORDER, _BYTES, _BYTES],
     "insn_same": [_ORDER, _BYTES, _ORDER, _BYTES],
     "insn_show": [_ORDER, _BYTES, _BYTES],
+    "object_canon": [_BYTES, _BYTES],
+    "object_check": [_BYTES],
+    "object_key": [_BYTES, _BYTES],
+    "object_same": [_BYTES, _BYTES],
 }
-_NAMES = ["insn_cause_name", "insn_cause_text", "line_cause_name", "line_cause_text", "btf_cause_name", "btf_cause_text"]
+_NAMES = [f"{kind}_cause_{what}" for kind in ("insn", "line", "btf", "object") for what in ("name", "text")]
 
 
 @functools.lru_cache(maxsize=None)

@@ -174,8 +174,18 @@ class ObjectCause(enum.Enum):
     EXTENSION_LINES = 151
     RESULT_TOO_LARGE = 152
 
+    @property
+    def label(self) -> str:
+        """The name in docs/FAULTS.md, for example "SectionCut"."""
+        return _library.string("object_cause_name", self.value)
 
-KnownCause = Union[InsnCause, LineCause, BtfCause]
+    @property
+    def text(self) -> str:
+        """A sentence that explains the cause, for example "the file isn't for BPF"."""
+        return _library.string("object_cause_text", self.value)
+
+
+KnownCause = Union[InsnCause, LineCause, BtfCause, ObjectCause]
 
 
 class OtherCause(NamedTuple):

@@ -16,7 +16,7 @@ class BpfcanonError(Exception):
 class Fault(BpfcanonError, ValueError):
     """The first fault of an input.
 
-    cause   an InsnCause, a LineCause or a BtfCause, or an OtherCause
+    cause   an InsnCause, a LineCause, a BtfCause or an ObjectCause, or an OtherCause
     pos     the offset of the fault in bytes; 0 in a listing
     line    the line of the fault in a listing, from 1; 0 in other inputs
     second  whether the fault is in the second of two inputs and the first is valid

@@ -17,7 +17,7 @@ from typing import Any, Optional
 from unittest import mock
 
 import bpfcanon
-from bpfcanon import BtfCause, Fault, InsnCause, LineCause, Order, OrderError, OutOfMemory, _library
+from bpfcanon import BtfCause, Fault, InsnCause, LineCause, ObjectCause, Order, OrderError, OutOfMemory, _library, objects
 from bpfcanon.errors import error_of
 
 from .samples import INSNS, TESTDATA, TOP, load, unhex
@@ -214,9 +214,12 @@ class Library(unittest.TestCase):
         enums = re.findall(r"^enum bpfcanon_(?:order|status|\w+_cause|group) \{\n(.*?)^\};", header, re.MULTILINE | re.DOTALL)
         numbers = {name: int(number) for name, number in re.findall(r"^\tBPFCANON_(\w+) = (\d+)", "".join(enums), re.MULTILINE)}
         kinds: list[tuple[str, Any]] = [("", Order), ("", bpfcanon.Group), ("INSN_", InsnCause), ("LINE_", LineCause), ("BTF_", BtfCause)]
+        kinds.append(("OBJECT_", ObjectCause))
         ours = {prefix + member.name: member.value for prefix, kind in kinds for member in kind}
         statuses = ["DONE", "DIFFERENT", "FAULT", "FAULT_SECOND", "MEMORY", "ROOM", "ORDER", "ALIGNMENT"]
         self.assertEqual(ours | {name: k for k, name in enumerate(statuses)}, numbers)
+        lengths = re.findall(r"^#define BPFCANON_(?:OBJECT_MAX|KEY_SIZE) (\d+)", header, re.MULTILINE)
+        self.assertEqual(lengths, [str(objects.MAX_SIZE), str(objects.KEY_SIZE)])
 
 
 @unittest.skipUnless(importlib.util.find_spec("elftools"), "pyelftools")
