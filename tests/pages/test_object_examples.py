@@ -24,7 +24,7 @@ CRATES = "/usr/share/cargo/registry"
 AROUND = {
     "c": "#include <bpf/libbpf.h>\n#include <bpf/btf.h>\n#include <bpfcanon.h>\n#include <errno.h>\n#include <stdio.h>\n\nint main(void)\n{\n%s\treturn answer.status != BPFCANON_DONE;\n}\n",
     "go": 'package main\n\nimport (\n\t"fmt"\n\t"os"\n\n\t"bpfcanon/objects"\n)\n\n%s\nfunc main() {\n\tkey, err := keyOf("packet_filter.o")\n'
-    "\tif err != nil {\n\t\tpanic(err)\n\t}\n\tfmt.Println(key)\n}\n",
+    '\tif err != nil {\n\t\tpanic(err)\n\t}\n\tfmt.Printf("%%x\\n", key)\n}\n',
     "python": "%s",
     "rust": "fn main() -> Result<(), Box<dyn std::error::Error>> {\n%s    Ok(())\n}\n",
 }
