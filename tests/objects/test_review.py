@@ -17,8 +17,9 @@ import pytest
 
 from tests import TOP
 from tests.command import SECONDS
+from tests.judges.test_pairs import PAIRS, edited
 from tests.needs import need
-from tests.objects.bases import all_bases
+from tests.objects.bases import all_bases, compile_source
 from tests.objects.changes import Base, changed
 from tests.objects.elf_file import ElfFile
 from tests.objects.known import DIFFERENCES, Known, objects_of
@@ -62,7 +63,7 @@ class Review:
 
     def changes(self, old: Any, new: Any) -> dict[str, list[str]]:
         """The lines of each change."""
-        return {str(it): list(it.lines) for it in self.module("compare").compare(old, new)}
+        return {it.text: list(it.lines) for it in self.module("compare").compare(old, new)}
 
 
 @pytest.fixture(scope="session")
@@ -97,6 +98,14 @@ def test_known_difference(known: Known, bases: list[Base], review: Review) -> No
     assert other is None or review.text(base) != review.text(other) and review.changes(base, other)
 
 
+@pytest.mark.parametrize("pair", PAIRS)
+def test_pair(pair: str, review: Review, tmp_path: Path) -> None:
+    """What some loader tells apart is shown otherwise."""
+    source, *edits = PAIRS[pair]
+    one, other = (review.accepted(edited(source, it, tmp_path)) for it in edits)
+    assert one and other and review.text(one) != review.text(other)
+
+
 @pytest.fixture(params=ORDERS)
 def order(request: pytest.FixtureRequest) -> str:
     return str(request.param)
@@ -127,7 +136,7 @@ def test_function(flows: Any, review: Review) -> None:
 
 
 def test_data(flows: Any, review: Review) -> None:
-    assert review.lines(flows, "data .data:label") == ["66 6c 6f 77 73 00  |flows.|"]
+    assert review.lines(flows, "data .data:label") == ["66 6c 6f 77 73 00 00 00  |flows...|"]
     assert review.lines(flows, "data .data:known")[0] == "16 bytes of zeros"
 
 
@@ -189,6 +198,18 @@ def test_statuses(run: Run, tmp_path: Path) -> None:
     assert [bool(it.stderr) for it in done] == [False, False, True, False, True, True]
     assert done[0].stdout == b"" and done[4].stdout.count(b"flows.little.elf") == 3
     assert done[2].stderr == b"bpfcanon-review: none: No such file or directory\n"
+
+
+@pytest.mark.needs("clang")
+def test_moved_function(review: Review, tmp_path: Path) -> None:
+    """Only the function before it is another one."""
+    source, objects = '__attribute__((section("xdp"))) int %s(void *context) { return %s; }\n', []
+    for value in "2", "(long)context":
+        (tmp_path / "moved.c").write_text(source % ("first", value) + source % ("second", 1))
+        assert compile_source(tmp_path / "moved.c", "bpfel", ("-g",), tmp_path / "moved.o")
+        objects.append(review.accepted((tmp_path / "moved.o").read_bytes()))
+    titles = [it.partition(" ")[2] for it in review.changes(*objects)]
+    assert "function xdp:first" in titles and "function xdp:second" not in titles
 
 
 def test_list(run: Run) -> None:

@@ -51,12 +51,12 @@ class Symbol:
 
 
 @dataclass(frozen=True)
-class Relocation:
-    """A row of a table of relocations."""
+class Row:
+    """What a table says of an offset. If it is about a whole section, this is its index: the instruction says which place is meant."""
 
     offset: int
-    type: str
-    symbol: Symbol
+    text: str
+    section: int = 0
 
 
 class Accepted:
@@ -105,11 +105,11 @@ class Accepted:
         label = labels.next(printed(name) if name else f"<{place}>")
         return Symbol(label, kind, binding, other, section, place, it["st_value"], it["st_size"])
 
-    def relocations(self, section: Section) -> Iterator[Relocation]:
+    def relocations(self, section: Section) -> Iterator[Row]:
         """Yield the rows of a table of relocations."""
         for it in self._elf.get_section(section.index).iter_relocations():
-            type = it["r_info_type"]
-            yield Relocation(it["r_offset"], RELOCATIONS.get(type, str(type)), self.symbols[it["r_info_sym"]])
+            symbol, type = self.symbols[it["r_info_sym"]], RELOCATIONS.get(it["r_info_type"], it["r_info_type"])
+            yield Row(it["r_offset"], f"{type} {symbol.label}", symbol.section if symbol.type == "SECTION" else 0)
 
     @cached_property
     def types(self) -> Optional[Btf]:

@@ -72,7 +72,7 @@ def diff(options: argparse.Namespace) -> int:
     found = compare(old, new)
     changes = attempt(f"{options.old}, {options.new}", lambda: [*found])
     for change in changes or ():
-        sys.stdout.writelines(f"{it}\n" for it in (change, *(() if options.brief else (f"  {line}" for line in change.lines))))
+        sys.stdout.writelines(f"{it}\n" for it in (change.text, *(() if options.brief else (f"  {line}" for line in change.lines))))
     return 2 if changes is None else int(bool(changes))
 
 

@@ -18,14 +18,10 @@ Operation = tuple[str, int, int, int, int]  # as difflib has them
 
 @dataclass(frozen=True)
 class Change:
-    """What differs: the word says whether it is added, removed or changed; then its title, and the lines of a unified diff."""
+    """What is added, removed or changed, in words, and the lines of a unified diff."""
 
-    word: str
-    title: str
+    text: str
     lines: tuple[str, ...]
-
-    def __str__(self) -> str:
-        return f"{self.word} {self.title}"
 
 
 class Side:
@@ -53,10 +49,10 @@ def compare(old: Accepted, new: Accepted) -> Iterator[Change]:
     for title in dict.fromkeys([*one.parts, *two.parts]):
         if one.parts.get(title) != two.parts.get(title):
             word = "added" if title not in one.parts else "removed" if title not in two.parts else "changed"
-            yield Change(word, title, tuple(unified(one, two, one.lines(title), two.lines(title))))
+            yield Change(f"{word} {title}", tuple(unified(one, two, one.lines(title), two.lines(title))))
     titles = [tuple(Line(it) for it in side.parts if it in one.parts and it in two.parts) for side in (one, two)]
     if titles[0] != titles[1]:
-        yield Change("changed", "sequence", tuple(unified(one, two, *titles)))
+        yield Change("changed sequence", tuple(unified(one, two, *titles)))
 
 
 def unified(one: Side, two: Side, first: Sequence[Line], second: Sequence[Line]) -> Iterator[str]:

@@ -7,10 +7,10 @@ from collections import defaultdict
 from typing import Iterator, Optional
 
 from ..insn_types import CallLocal
-from .accepted import Accepted, Symbol
+from .accepted import Accepted, Row, Symbol
 from .code import SLOT, Instruction, instructions
 from .notation import Notation
-from .tables import Row, Table, tables
+from .tables import Table, tables
 
 NAMED = ("FUNC", "OBJECT")  # types of symbols: those of functions, and of variables and maps
 

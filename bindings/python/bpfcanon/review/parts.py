@@ -7,7 +7,7 @@ key. The others say what differs; tests change files and compare the parts witho
 from __future__ import annotations
 
 import hashlib
-from dataclasses import dataclass
+from dataclasses import dataclass, field
 from typing import Iterable, Iterator
 
 from .accepted import Accepted, Section, Symbol
@@ -20,11 +20,14 @@ MAX_HEX, ROW = 1 << 16, 16  # bytes of data that are printed, and in a line
 
 @dataclass(frozen=True)
 class Line:
-    """A line of text; of an instruction also the name of its section and its offset there, by which its source is found."""
+    """A line of text; of an instruction also the name of its section and its offset there, by which its source is found.
+
+    Lines with one text are equal: a function that only moved isn't another one.
+    """
 
     text: str
-    section: str = ""
-    offset: int = 0
+    section: str = field(default="", compare=False)
+    offset: int = field(default=0, compare=False)
 
 
 @dataclass(frozen=True)

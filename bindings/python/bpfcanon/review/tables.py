@@ -5,7 +5,7 @@ from __future__ import annotations
 from dataclasses import dataclass
 from typing import Iterator, Optional
 
-from .accepted import Accepted, Section
+from .accepted import Accepted, Row, Section
 from .labels import printed
 from .notation import Notation
 
@@ -14,15 +14,6 @@ CORE_KINDS = dict(enumerate((
     "byte_off", "byte_size", "exists", "signed", "lshift_u64", "rshift_u64",
     "local_type_id", "target_type_id", "type_exists", "type_size", "enumval_exists", "enumval", "type_matches",
 )))  # fmt: skip
-
-
-@dataclass(frozen=True)
-class Row:
-    """What is said of an offset. If it is about a whole section, this is its index: the instruction says which place is meant."""
-
-    offset: int
-    text: str
-    section: int = 0
 
 
 @dataclass(frozen=True)
@@ -44,11 +35,7 @@ def tables(object: Accepted, notation: Optional[Notation]) -> Iterator[Table]:
     """Yield the tables in the sequence of the file."""
     for section in object.sections.values():
         if section.type == "REL":
-            rows = (
-                Row(it.offset, f"{it.type} {it.symbol.label}", it.symbol.section if it.symbol.type == "SECTION" else 0)
-                for it in object.relocations(section)
-            )
-            yield Table("relocations", section.label, object.sections[section.target], tuple(rows))
+            yield Table("relocations", section.label, object.sections[section.target], tuple(object.relocations(section)))
     if notation:
         yield from extension_tables(object, notation)
 
