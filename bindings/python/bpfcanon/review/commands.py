@@ -9,6 +9,7 @@ from typing import Callable, Iterator, Optional, TypeVar
 
 import bpfcanon
 
+from ..objects import MAX_SIZE
 from .accepted import Accepted
 from .cli import complain
 from .compare import compare
@@ -17,7 +18,6 @@ from .limits import limited
 from .parts import parts
 
 STANDARD_INPUT = "-"
-MAX_FILE = 64 << 20  # bytes of a file that is accepted
 T = TypeVar("T")
 
 
@@ -72,7 +72,7 @@ def diff(options: argparse.Namespace) -> int:
     found = compare(old, new)
     changes = attempt(f"{options.old}, {options.new}", lambda: [*found])
     for change in changes or ():
-        sys.stdout.writelines(f"{it}\n" for it in (change.text, *(() if options.brief else (f"  {line}" for line in change.lines))))
+        sys.stdout.writelines(f"{it}\n" for it in (change.text, *(f"  {line}" for line in change.lines)))
     return 2 if changes is None else int(bool(changes))
 
 
@@ -89,7 +89,7 @@ def attempt(name: str, call: Callable[[], T]) -> Optional[T]:
 def read(path: str) -> bytes:
     """Return the contents of a file or of standard input, at most a byte more than an accepted file has. Raises OSError."""
     with open(path if path != STANDARD_INPUT else 0, "rb") as file:
-        return file.read(MAX_FILE + 1)
+        return file.read(MAX_SIZE + 1)
 
 
 COMMANDS = {"show": show, "diff": diff, "list": list_keys}
