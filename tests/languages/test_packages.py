@@ -66,4 +66,4 @@ def test_python_install(python, tmp_path):
     line = f"cp -R . {tmp_path}/own && cd {tmp_path} && /usr/bin/python3 -m pip install {options} --target site ./own && test -f site/bpfcanon/py.typed"
     python.run(line, PIP_ROOT_USER_ACTION="ignore")
     line = f'cd {tmp_path} && /usr/bin/python3 -c "import bpfcanon; bpfcanon.insn_canon(bytes())" && /usr/bin/python3 site/bin/bpfcanon-review list {TOP}/bindings/python/tests/compiled/flows.big.elf'
-    assert python.run(line, PYTHONPATH=f"{tmp_path}/site").endswith("flows.big.elf:xdp:count_flows\n")
+    assert python.run(line, PYTHONPATH=f"{tmp_path}/site").endswith("flows.big.elf: xdp count_flows\n")

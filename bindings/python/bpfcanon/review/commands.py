@@ -51,7 +51,7 @@ def listed(path: str) -> Iterator[str]:
     """Yield the lines of a file."""
     found = Accepted(read(path))
     yield f"{found.key}  {printable(path)}"
-    yield from (f"{it.digest}  {printable(path)}:{it.name}" for it in parts(found) if it.kind == "function")
+    yield from (f"{it.digest}  {printable(path)}: {it.name}" for it in parts(found) if it.kind == "function")
 
 
 def for_each(paths: list[str], lines: Callable[[str], Iterator[str]]) -> int:

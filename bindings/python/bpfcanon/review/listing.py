@@ -72,4 +72,4 @@ class Listing:
         names = {start: it.label for start, _, it in reversed(self._symbols.get(section, [])) if it.type == type and start < size}
         starts = sorted({0, *names}) if size else []
         for start, end in zip(starts, [*starts[1:], size]):
-            yield names.get(start, f"+{start:#x}"), start, end
+            yield names.get(start, "<unnamed>"), start, end

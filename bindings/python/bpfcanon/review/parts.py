@@ -81,14 +81,14 @@ def code_parts(listing: Listing, section: Section) -> Iterator[Part]:
         for it in inside:
             lines += [Line(f"{labels[it.offset]}:")] if it.offset in labels else []
             lines.append(Line(f"\t{listing.text(section.index, it, labels)}", section.name, it.offset))
-        yield Part("function", f"{section.label}:{name}", tuple(lines))
+        yield Part("function", f"{section.label} {name}", tuple(lines))
         place = last
 
 
 def data_parts(listing: Listing, section: Section) -> Iterator[Part]:
     """Yield the variables of a section that has bytes."""
     for name, start, end in listing.cuts(section.index, len(section.content), "OBJECT"):
-        yield part("data", f"{section.label}:{name}", data_lines(section.content[start:end]))
+        yield part("data", f"{section.label} {name}", data_lines(section.content[start:end]))
 
 
 def data_lines(content: bytes) -> Iterator[str]:
