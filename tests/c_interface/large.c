@@ -1,8 +1,9 @@
 /*
  * Makes each call on several megabytes, and at the limits of the command: instructions and listings of 67,108,864 bytes, BTF of
- * 50,335,744. usage: large [several], which leaves the limits out
+ * 50,335,744, object files of 67,108,864. usage: large [several], which leaves the limits out
  */
 #include "checks.h"
+#include "object_file.h"
 
 #define INSN_LIMIT ((size_t)67108864)
 #define BTF_TYPES ((size_t)2097152)
@@ -143,6 +144,27 @@ static void limit_btf(void)
 	exceed(BTF_HEADER, BTF_TYPES, BTF_STRINGS + 1, BPFCANON_BTF_STRING_LENGTH, 20);
 }
 
+/* The longest object file, whose code is so long, and one that is longer. */
+static void limit_objects(void)
+{
+	uint8_t *file = allocate(BPFCANON_OBJECT_MAX + 1), *out = allocate(BPFCANON_OBJECT_MAX);
+	const size_t more = BPFCANON_OBJECT_MAX - sizeof OBJECT, rest = offsetof(struct object_file, types);
+	struct object_file longer = OBJECT;
+
+	longer.head.e_shoff += more;
+	longer.rows[1].sh_size += more;
+	for (int k = 2; k < 5; k++)
+		longer.rows[k].sh_offset += more;
+	memset(file, 0, BPFCANON_OBJECT_MAX + 1);
+	memcpy(file, &longer, rest);
+	memcpy(file + rest + more, (uint8_t *)&longer + rest, sizeof OBJECT - rest);
+	CHECK(is(bpfcanon_object_canon(file, BPFCANON_OBJECT_MAX, out, BPFCANON_OBJECT_MAX), written(BPFCANON_OBJECT_MAX)));
+	CHECK(!memcmp(out, file, BPFCANON_OBJECT_MAX));
+	CHECK(is(bpfcanon_object_check(file, BPFCANON_OBJECT_MAX + 1), fault(BPFCANON_OBJECT_FILE_TOO_LARGE, BPFCANON_OBJECT_MAX)));
+	free(file);
+	free(out);
+}
+
 int main(int argc, char **argv)
 {
 	const int is_at_limits = argc != 2 || strcmp(argv[1], "several");
@@ -157,6 +179,7 @@ int main(int argc, char **argv)
 		read_spaced_lines(exit_insn);
 		repeat_int(BTF_HEADER, BTF_TYPES, BTF_STRINGS);
 		limit_btf();
+		limit_objects();
 	}
 	return end(is_at_limits ? "megabytes and the limits" : "megabytes");
 }

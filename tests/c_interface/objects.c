@@ -124,27 +124,6 @@ static void causes_have_names(void)
 	CHECK(!bpfcanon_object_cause_name(0xffffffff) && !bpfcanon_object_cause_text(0x80000065));
 }
 
-/* The longest file: its code is longer, up to the section headers. */
-static void the_longest_file_has_64_mib(void)
-{
-	uint8_t *file = allocate(BPFCANON_OBJECT_MAX + 1), *out = allocate(BPFCANON_OBJECT_MAX);
-	const size_t more = BPFCANON_OBJECT_MAX - LEN, rest = offsetof(struct object_file, types);
-	struct object_file longer = OBJECT;
-
-	longer.head.e_shoff += more;
-	longer.rows[1].sh_size += more;
-	for (int k = 2; k < 5; k++)
-		longer.rows[k].sh_offset += more;
-	memset(file, 0, BPFCANON_OBJECT_MAX + 1);
-	memcpy(file, &longer, rest);
-	memcpy(file + rest + more, (uint8_t *)&longer + rest, LEN - rest);
-	CHECK(is(bpfcanon_object_canon(file, BPFCANON_OBJECT_MAX, out, BPFCANON_OBJECT_MAX), written(BPFCANON_OBJECT_MAX)));
-	CHECK(!memcmp(out, file, BPFCANON_OBJECT_MAX));
-	CHECK(is(bpfcanon_object_check(file, BPFCANON_OBJECT_MAX + 1), fault(BPFCANON_OBJECT_FILE_TOO_LARGE, BPFCANON_OBJECT_MAX)));
-	free(file);
-	free(out);
-}
-
 int main(void)
 {
 	make_loose();
@@ -154,6 +133,5 @@ int main(void)
 	objects_are_compared();
 	faults_count_from_the_start_of_the_file();
 	causes_have_names();
-	the_longest_file_has_64_mib();
 	return end("object files");
 }
