@@ -105,10 +105,10 @@ tools:
 lint:
 	$(PYTHON) -m compileall -q tests bindings/python packaging
 	for it in $$(git ls-files -s | sed -n 's/^100755.*\t//p'); do case $$(head -1 $$it) in *bash*|*/sh) bash -n $$it || exit 1;; esac; done
-	! command -v gofmt > out/found || test -z "$$(gofmt -l bindings/go tests | tee /dev/stderr)"
-	! command -v rustfmt > out/found || rustfmt --edition 2021 --config-path bindings/rust --check $$(git ls-files 'bindings/rust/*.rs')
+	! command -v gofmt > out/found || test -z "$$(gofmt -l bindings/go examples tests | tee /dev/stderr)"
+	! command -v rustfmt > out/found || rustfmt --edition 2021 --config-path bindings/rust --check $$(git ls-files 'bindings/rust/*.rs' 'examples/*.rs')
 	! command -v mypy > out/found || (cd bindings/python && mypy --cache-dir=$(CURDIR)/out/mypy)
-	! command -v codespell > out/found || codespell -q 3 -L crate README.md docs
+	! command -v codespell > out/found || codespell -q 3 -L crate README.md docs examples
 
 # --- a release
 dist:

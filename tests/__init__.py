@@ -6,6 +6,7 @@
     reference/    modules, and no tests: readers of the tables of docs/FORMATS.md and docs/FAULTS.md, and checkers made of them
     languages/    the packages for Go, Rust and Python, and their readers of the vectors, over wrong vectors and wrong answers
     c_interface/  the C library
+    examples/     follow the pages of examples/, and try to deceive the loaders there
     judges/       compare canonical object files with what libbpf, cilium/ebpf, the kernel and other tools say of the originals
     objects/      object files changed with knowledge of ELF and BTF, which the judges use too, and what bpfcanon-review shows of them
     released/     the parts of tests/release, which uses the files of a release

@@ -18,8 +18,10 @@ FILES = {
     "setuptools": f"{MODULES}/setuptools",
     "wheel": f"{MODULES}/wheel",
     "libbpf": "/usr/include/bpf/btf.h",
+    "libcrypto": "/usr/include/openssl/evp.h",
     "github.com/cilium/ebpf": f"{GOCODE}/src/github.com/cilium/ebpf",
     "librust-object-dev": f"{CRATES}/object-*",
+    "librust-ring-dev": f"{CRATES}/ring-*",
 }
 
 

@@ -8,7 +8,7 @@ from tests import TOP
 
 
 PAGES = [TOP / name for name in ("README.md", "SECURITY.md", "CHANGELOG.md", "testdata/README.md", "bench/README.md")]
-PAGES += sorted([*TOP.glob("docs/*.md"), *TOP.glob("bindings/*/README.md")])
+PAGES += sorted([*TOP.glob("docs/*.md"), *TOP.glob("bindings/*/README.md"), *TOP.glob("examples/**/README.md")])
 BLOCK = re.compile(r"^```.*?^```$", re.MULTILINE | re.DOTALL)
 LINK = re.compile(r"\[[^\]]*\]\(([^)\s]+)\)")
 # A file in code: folders and a name with one of these endings. Capitals such as NAME stand for any name.
