@@ -1,0 +1,4 @@
+__attribute__((section("xdp"), used)) int allow(void *context)
+{
+	return 2; /* XDP_PASS */
+}

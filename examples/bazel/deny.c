@@ -1,0 +1,4 @@
+__attribute__((section("xdp"), used)) int deny(void *context)
+{
+	return 1; /* XDP_DROP */
+}
