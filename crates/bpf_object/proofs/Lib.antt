@@ -61,3 +61,5 @@ pub mod CanonExtensionKept
 pub mod CanonHeld
 pub mod DenotesOne
 pub mod CanonDenotes
+pub mod AcceptedLemmas
+pub mod LineLemmas

@@ -78,7 +78,7 @@ faultless b x fault bytes d (of_types f) = types_are_faultless b x.types fault b
 faultless b x fault bytes d (of_extension f) = extension_is_faultless b x.types fault d.types f
 faultless b x fault bytes d (of_result f) = result_is_small b x fault d f
 
-fails_no_object : (b : List ℕ) (e : ObjectError) (x : Object) → IsBytes b → Denotes b x → Fails b e → e ≡ errors.Memory
+pub fails_no_object : (b : List ℕ) (e : ObjectError) (x : Object) → IsBytes b → Denotes b x → Fails b e → e ≡ errors.Memory
 fails_no_object b (errors.Fault f) x bytes d fails = absurd (faultless b x f bytes d fails)
 fails_no_object b errors.Memory x bytes d fails = refl
 

@@ -31,7 +31,7 @@ all_fails (suc n) k test lt h =
           and_false_right (all_of n test) (test n) (subst (λ (m : ℕ). test m ≡ false) same h)
     ]
 
-first_true : (x y : Bool) → (x && y) ≡ true → x ≡ true
+pub first_true : (x y : Bool) → (x && y) ≡ true → x ≡ true
 first_true true y e = refl
 first_true false y e = cc
 

@@ -25,3 +25,5 @@ pub mod WrittenTypes
 pub mod ObjectFaults
 pub mod SameObjects
 pub mod Laws
+pub mod SourceLines
+pub mod AcceptedFacts

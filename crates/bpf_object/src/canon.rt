@@ -50,7 +50,7 @@ fn check_no_extension(elf: &Elf<'_>) -> Result<(), ObjectFault>
 }
 
 /// .BTF.ext of a file, without bytes if there is none.
-fn own_extension<'a>(elf: &'a Elf<'_>, strings: &'a [u8]) -> Source<'a>
+pub(crate) fn own_extension<'a>(elf: &'a Elf<'_>, strings: &'a [u8]) -> Source<'a>
     requires { is_closed strings.now ≡ true }
     ensures is { section result ≡ spec.extension_of elf.now strings.now }
     ensures strings { result.strings.now ≡ strings.now }

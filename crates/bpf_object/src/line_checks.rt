@@ -16,7 +16,7 @@ use crate::source::{Source, group_count, records_len, word};
 use bpf_elf::string_at;
 
 /// insn_off of a record.
-fn insn_off(x: Source<'_>, part: Part, group: usize, k: usize) -> usize
+pub(crate) fn insn_off(x: Source<'_>, part: Part, group: usize, k: usize) -> usize
     requires group { HasGroup x part group }
     requires there { k < spec_count (section x) group }
     ensures { result ≡ spec.insn_off (section x.entry) part group k }

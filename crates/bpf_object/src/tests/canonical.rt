@@ -1,7 +1,7 @@
 //! Canonical files, comparisons and keys of a small object, and each of their allocations refused
 //! in turn.
 
-use crate::{ObjectError, SameError, canon_object, object_key, same_objects};
+use crate::{AcceptedObject, ObjectError, SameError, canon_object, object_key, same_objects};
 use bumpalo::Bump;
 use std::alloc::{AllocError, Global};
 use std::process::Abort;
@@ -101,6 +101,7 @@ enum Call {
     Canon,
     Same,
     Key,
+    Read,
 }
 
 impl Call {
@@ -116,6 +117,10 @@ impl Call {
             },
             Call::Key => match object_key(bump, CANONICAL.as_slice()) {
                 Ok(key) => Some(key == KEY),
+                Err(error) => refused(error == ObjectError::Memory),
+            },
+            Call::Read => match AcceptedObject::read(bump, CANONICAL.as_slice()) {
+                Ok(object) => Some(object.elf().bytes() == CANONICAL.as_slice()),
                 Err(error) => refused(error == ObjectError::Memory),
             },
         }
@@ -139,7 +144,7 @@ fn first_answer(rt: &impl Abort, alloc: Global, call: Call) -> Option<(usize, bo
 
 #[test]
 fn each_call_reports_that_memory_is_refused(rt: HostRuntime) {
-    for call in [Call::Canon, Call::Same, Call::Key] {
+    for call in [Call::Canon, Call::Same, Call::Key, Call::Read] {
         let answer = first_answer(&rt, rt.alloc(), call);
         let is_right = matches!(answer, Some((room, true)) if room > CANONICAL.len());
         assert!(rt; is_right, "{call:?}: {answer:?}");
