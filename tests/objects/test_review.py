@@ -27,7 +27,7 @@ from tests.reference import object_reference
 
 COMPILED = TOP / "bindings" / "python" / "tests" / "compiled"
 ORDERS = ("little", "big")
-FEWEST = 3  # of ten changed objects are accepted: fewer would test little
+FEWEST = 2  # texts of ten changed objects: fewer would test little
 pytestmark = pytest.mark.needs("elftools")
 
 
