@@ -253,6 +253,40 @@ def test_faults_of_code(fault, run, folder):
     assert run("check", "--format", "github", "one", "odd") == Ran(1, f"::error file=odd::odd: {place}\n".encode())
 
 
+# Code for targets (RFC 9669 section 2.4): its instructions, the groups of a target, and the offset and the group of the first instruction
+# outside it. w0 = 2 and exit are in base32, r0 = 2 and a wide load in base64, which includes base32.
+OUTSIDE = {
+    "in the group": ("b400000002000000 9500000000000000", "base32", None),
+    "in the group that is included": ("b400000002000000 9500000000000000", "base64", None),
+    "base64": ("b400000002000000 b700000002000000 bf10000000000000", "base32", (0x8, "base64")),
+    "after a wide load": ("1800000000000000 0000000000000000 2000000000000000", "base64", (0x10, "packet")),
+    "divmul32 included": ("2400000003000000 9500000000000000", "base32,divmul64", None),
+    "divmul32": ("2400000003000000 9500000000000000", "base64,atomic64,packet", (0x0, "divmul32")),
+    "divmul64": ("2400000003000000 2700000003000000", "divmul32,base64", (0x8, "divmul64")),
+    "atomic32": ("c310000000000000 9500000000000000", "base32,divmul32", (0x0, "atomic32")),
+    "atomic64": ("c310000000000000 db10000000000000", "atomic32,atomic32", (0x8, "atomic64")),
+    "base32": ("2000000000000000 9500000000000000", "packet", (0x8, "base32")),
+    "a fault": ("b700000002000000 ff00000000000000", "base32", (0x8, None)),
+}
+
+
+@pytest.mark.parametrize("row", OUTSIDE.values(), ids=OUTSIDE)
+def test_target(row, run, folder):
+    """Of each section of code without a fault, the first instruction outside the target is reported."""
+    code, groups, found = row
+    folder(**{"odd": with_code(bytes.fromhex(code)), "data": with_code(bytes.fromhex(code), b"\2"), "cut": CUT})
+    offset, group = found or (0, None)
+    reason = f"needs {group}" if group else "Opcode"
+    text = f"xdp+{offset:#x}: {reason}"
+    ran = run("check", "--target", groups, "data", "odd")
+    assert ran == Ran(int(found is not None), b"data: accepted\nodd: accepted\n", f"odd: {text}\n".encode() if found else b"")
+    rows = [json.loads(it) for it in run("check", "--format", "json", "--target", groups, "odd").output.splitlines()]
+    assert rows[1:] == ([{"file": "odd", "section": "xdp", "offset": offset, "text": reason}] if found else [])
+    line = f"::error file=odd::odd: {text}\n".encode() if found else b""
+    assert run("check", "--format", "github", f"--target={groups}", "odd") == Ran(int(found is not None), line)
+    assert has_fault(run("check", "--target", groups, "cut"), "cut", len(CUT))
+
+
 def test_folders(run, folder):
     """A folder is all object files in it, by name: what begins with the magic number of ELF. Links in it are left out."""
     made = folder(b=CANONICAL, text=b"no object", empty=b"")
@@ -285,6 +319,10 @@ WORDS = {
     "one file": ("same", "one"),
     "an unknown format": ("check", "--format", "xml", "one"),
     "an option of another verb": ("key", "--format", "json", "one"),
+    "an unknown group": ("check", "--target", "base32,base16", "one"),
+    "an empty group": ("check", "--target", "base32,", "one"),
+    "no group": ("check", "--target", "", "one"),
+    "two targets": ("check", "--target", "base32", "--target", "base64", "one"),
 }
 
 
@@ -327,6 +365,9 @@ REFUSED = {
     "same": ("same", "one", "two"),
     "check": ("check", "--format", "json", "cut", "top"),
     "github": ("check", "--format", "github", "cut", "one"),
+    "check of code": ("check", "odd", "source"),
+    "check of code as json": ("check", "--format", "json", "--target", "packet", "odd", "source"),
+    "check of code as github": ("check", "--format", "github", "--target", "base64,packet", "odd", "source"),
     "a wrong word": ("show",),
     "help": ("--help",),
 }
@@ -344,7 +385,9 @@ def is_refusal(ran, right):
 @pytest.mark.parametrize("words", REFUSED.values(), ids=REFUSED)
 def test_refused_memory(words, only_one, run, refusing, folder):
     """Whichever allocation is refused, no answer is wrong, and the output isn't a part of a file."""
-    made = folder(one=CANONICAL, two=OTHER, cut=CUT)
+    made = folder(one=CANONICAL, two=OTHER, cut=CUT, odd=with_code(b"\xff" + bytes(7)))
+    if "source" in words:
+        folder(source=with_fault("bpfel", 0))
     (made / "keys").write_bytes(run("key", "one", "two").output)
     (made / "top").mkdir()
     (made / "top" / "a.o").write_bytes(CANONICAL)
@@ -371,6 +414,50 @@ def compiled(source, target, *flags):
     need("clang")
     line = ["clang", "-target", target, "-O2", *flags, "-c", TOP / "testdata" / f"{source}.c", "-o", "-"]
     return subprocess.run(line, check=True, stdout=subprocess.PIPE).stdout
+
+
+def with_fault(target, at, *flags):
+    """The object file of testdata/pass.c, whose code is `return 2;` in line 6, with an opcode that doesn't exist at an offset of its code."""
+    made = bytearray(compiled("pass", target, "-g", *flags))
+    code = bytes.fromhex("b700000002000000 9500000000000000" if target == "bpfel" else "b700000000000002 9500000000000000")
+    assert made.count(code) == 1
+    made[made.index(code) + at] = 0xFF
+    return bytes(made)
+
+
+# How the folder of the source is named, and how the name of the source is then printed as text, and as a property of a workflow command.
+FOLDERS = {
+    "as it is": (str(TOP / "testdata"), str(TOP / "testdata"), str(TOP / "testdata")),
+    "a name that something could act on": ("/a,b:c%\x1b\\", "/a,b:c%\\x1b\\\\", "/a%2Cb%3Ac%25\\x1b\\\\"),
+}
+
+
+@pytest.mark.parametrize("names", FOLDERS.values(), ids=FOLDERS)
+@pytest.mark.parametrize("target", TARGETS)
+def test_source_lines(target, names, run, folder):
+    """What is reported of code has the line and column of source: of the return statement, as DWARF and `llvm-objdump -S` have them."""
+    name, text, parameter = (f"{it}/pass.c" for it in names)
+    flag = f"-fdebug-prefix-map={TOP / 'testdata'}={names[0]}"
+    folder(first=with_fault(target, 0, flag), second=with_fault(target, 8, flag), good=compiled("pass", target, "-g", flag))
+    lines = [f"first: xdp+0x0: Opcode at {text}:6:2", f"second: xdp+0x8: Opcode at {text}:6:2", f"good: xdp+0x0: needs base64 at {text}:6:2"]
+    files = "first", "second", "good"
+    accepted = "".join(f"{it}: accepted\n" for it in files).encode()
+    assert run("check", "--target", "base32", *files) == Ran(1, accepted, "".join(f"{it}\n" for it in lines).encode())
+    rows = [json.loads(it) for it in run("check", "--format", "json", "second").output.splitlines()]
+    assert rows[1] == {"file": "second", "section": "xdp", "offset": 8, "text": "Opcode", "source": name, "line": 6, "column": 2}
+    message = "second: xdp+0x8: Opcode"
+    assert run("check", "--format", "github", "second") == Ran(1, f"::error file={parameter},line=6,col=2::{message}\n".encode())
+
+
+@pytest.mark.parametrize("target", TARGETS)
+def test_no_source_lines(target, run, folder):
+    """A file without .BTF.ext and a canonical file have no source lines."""
+    made = compiled("pass", target)
+    code = bytearray(made)
+    code[made.index(b"\xb7")] = 0xFF
+    folder(plain=bytes(code), canonical=object_reference.canonical(with_fault(target, 0)))
+    messages = b"plain: xdp+0x0: Opcode\ncanonical: xdp+0x0: Opcode\n"
+    assert run("check", "plain", "canonical") == Ran(1, b"plain: accepted\ncanonical: accepted\n", messages)
 
 
 @pytest.mark.parametrize("flags", [(), ("-g",)], ids=["plain", "-g"])

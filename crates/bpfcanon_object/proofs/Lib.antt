@@ -1,4 +1,5 @@
 mod CodeLemmas
 pub mod EscapeLemmas
 pub mod KeyLineLemmas
+pub mod TargetLemmas
 pub mod TextLemmas

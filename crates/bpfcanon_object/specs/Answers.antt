@@ -1,5 +1,5 @@
 -- What each verb answers for a file: a status, what goes to standard output, and what goes to standard error.
-use Rattle.std.specs.Prelude.{◌≡◌, ◌++◌, ℕ, Bool, true, false, List, [], ◌∷◌, codes, Result, Ok, Err, string_bytes}
+use Rattle.std.specs.Prelude.{◌≡◌, ◌++◌, ℕ, Bool, true, false, List, [], ◌∷◌, codes, Option, Result, Ok, Err, string_bytes}
 use Rattle.std.specs.Str.{bytes_eq}
 use Rattle.bpf_object.specs.declared.fault.ObjectFault.{ObjectFault}
 use Rattle.bpf_object.specs.{Denotes.Denotes, ObjectFaults.IsFault, Objects.Object}
@@ -8,6 +8,7 @@ use Rattle.bpfcanon_object.specs.declared.answer.Status.TheVariants.{Yes, No, Tr
 use Rattle.bpfcanon_object.specs.declared.check.Format.{Format}
 use Rattle.bpfcanon_object.specs.declared.check.Format.TheVariants.{Text, Json, Github}
 use Rattle.bpf_elf.specs.Numbers.{count}
+use Rattle.bpf_insn.specs.declared.group.GroupSet.{GroupSet}
 use Rattle.bpfcanon_object.specs.Code.{AreCodeLines}
 use Rattle.bpfcanon_object.specs.Formats.{accepted_lines, json_fault, json_line, github_line}
 use Rattle.bpfcanon_object.specs.{Lines.fault_line, Lines.newline, Lines.trouble_line, KeyLines.key_line, KeyLines.row_line}
@@ -72,24 +73,24 @@ IsFaultAnswer Text name fault answer = IsRefused name fault [] answer
 IsFaultAnswer Json name fault answer = (cause : List ℕ) × IsAnswer No (json_line name (json_fault fault.pos cause)) [] answer
 IsFaultAnswer Github name fault answer = (cause : List ℕ) × IsAnswer No (github_line name fault.pos cause) [] answer
 
--- the status for lines of faults of code
+-- the status for the lines of code
 abbrev pub code_status : List ℕ → Status
 code_status [] = Yes
 code_status (_ ∷ _) = No
 
--- the faults of code are messages, or follow the line of the file
+-- the lines of code are messages, or follow the line of the file
 abbrev pub IsAnswerWith : {A : Type 0} → Format → List ℕ → List ℕ → Answer A → Type 0
 IsAnswerWith Text lines faults answer = IsAnswer (code_status faults) lines faults answer
 IsAnswerWith Json lines faults answer = IsAnswer (code_status faults) (lines ++ faults) [] answer
 IsAnswerWith Github lines faults answer = IsAnswer (code_status faults) (lines ++ faults) [] answer
 
--- the answer of check for a file that is accepted, in each format: that it is, and the faults of its code
-abbrev pub IsAcceptedAnswer : {A : Type 0} → Format → List ℕ → List ℕ → Answer A → Type 0
-IsAcceptedAnswer format name file answer =
-    (faults : List ℕ) × (AreCodeLines format name file (count file) faults
+-- the answer of check for a file that is accepted, in each format: that it is, and what is reported of its code
+abbrev pub IsAcceptedAnswer : {A : Type 0} → Format → Option GroupSet → List ℕ → List ℕ → Answer A → Type 0
+IsAcceptedAnswer format target name file answer =
+    (faults : List ℕ) × (AreCodeLines format target name file (count file) faults
     × IsAnswerWith format (accepted_lines format name) faults answer)
 
 -- the answer of check for a file, in each format: that it is accepted, or its fault
-pub data IsCheckAnswer {A : Type 0} (format : Format) (name file : List ℕ) (answer : Answer A) : Type 0 where
-  accepted : (x : Object) → Denotes file x → IsAcceptedAnswer format name file answer → IsCheckAnswer format name file answer
-  refused : (fault : ObjectFault) → IsFault file fault → IsFaultAnswer format name fault answer → IsCheckAnswer format name file answer
+pub data IsCheckAnswer {A : Type 0} (format : Format) (target : Option GroupSet) (name file : List ℕ) (answer : Answer A) : Type 0 where
+  accepted : (x : Object) → Denotes file x → IsAcceptedAnswer format target name file answer → IsCheckAnswer format target name file answer
+  refused : (fault : ObjectFault) → IsFault file fault → IsFaultAnswer format name fault answer → IsCheckAnswer format target name file answer

@@ -1,41 +1,58 @@
--- The faults of code: of each section of code the first one, where the bytes aren't an instruction (RFC 9669 section 3).
-use Rattle.std.specs.Prelude.{◌≡◌, ◌++◌, ◌&&◌, ℕ, zero, suc, Bool, true, false, List, [], Option, Some, None}
+-- What is reported of code: of each section of code the first place where the bytes aren't an instruction (RFC 9669 section 3), or else the
+-- first instruction outside the target.
+use Rattle.std.specs.Prelude.{◌≡◌, ◌++◌, ◌&&◌, if◌then◌else◌, ℕ, zero, suc, Bool, true, false, List, [], Option, Some, None, All, length, nat_lt}
 use Rattle.std.specs.Str.Lossy.{utf8_lossy}
 use Rattle.bpf_words.specs.declared.Order.{Order}
 use Rattle.bpf_elf.specs.declared.kinds.Kind.TheVariants.{Data}
 use Rattle.bpf_elf.specs.{Kinds.has_flag, Kinds.is_kind, Numbers.flags, Numbers.order_of}
 use Rattle.bpf_elf.specs.Sections.{content, kind, name}
-use Rattle.bpf_insn.specs.declared.{insn.Insn.Insn, fault.SlotFault.SlotFault}
+use Rattle.bpf_object.specs.SourceLines.{Line, source_line}
+use Rattle.bpf_insn.specs.declared.{insn.Insn.Insn, group.GroupSet.GroupSet}
 use Rattle.bpf_insn.specs.{Faults.IsInsnFault, Spelling.InsnFile}
-use Rattle.bpfcanon_object.specs.Formats.{code_line}
+use Rattle.bpfcanon_object.specs.{Formats.code_line, Target.IsFirstOutside, Target.IsWithin}
+use Rattle.bpfcanon_object.specs.declared.finding.{Finding.Finding, Reason.Reason, Reason.TheVariants.Fault, Reason.TheVariants.Outside}
 use Rattle.bpfcanon_object.specs.declared.check.Format.{Format}
 
 -- a section of code: SHF_EXECINSTR is 4
 abbrev pub is_code : List ℕ → ℕ → Bool
 is_code b i = is_kind Data (kind b i) && has_flag 4 (flags b i)
 
--- the bytes are instructions, or this is their first fault
-abbrev pub IsFound : Order → List ℕ → Option SlotFault → Type 0
-IsFound order bytes None = (insns : List Insn) × InsnFile order bytes insns
-IsFound order bytes (Some fault) = IsInsnFault order bytes fault
+-- the bytes at this offset aren't an instruction, or are the first one outside the target
+abbrev pub IsReason : Order → Option GroupSet → List ℕ → ℕ → Reason → Type 0
+IsReason order target bytes pos (Fault cause) = IsInsnFault order bytes (record { pos = pos; cause = cause })
+IsReason order target bytes pos (Outside group) = IsFirstOutside order target bytes pos group
 
--- what isn't code has no fault
-abbrev pub IsFoundIf : Bool → Order → List ℕ → Option SlotFault → Type 0
-IsFoundIf true order bytes found = IsFound order bytes found
-IsFoundIf false order bytes found = found ≡ None
+-- the bytes are instructions in the target, or this is the first place where they aren't
+abbrev pub IsFound : Order → Option GroupSet → List ℕ → Option Finding → Type 0
+IsFound order target bytes None = (insns : List Insn) × (InsnFile order bytes insns × All (IsWithin target) insns)
+IsFound order target bytes (Some found) = IsReason order target bytes found.pos found.reason
 
--- the first fault of a section, if it has one
-abbrev pub IsFoundIn : List ℕ → ℕ → Option SlotFault → Type 0
-IsFoundIn b i found = IsFoundIf (is_code b i) (order_of b) (content b i) found
+-- nothing is reported of what isn't code
+abbrev pub IsFoundIf : Bool → Order → Option GroupSet → List ℕ → Option Finding → Type 0
+IsFoundIf true order target bytes found = IsFound order target bytes found
+IsFoundIf false order target bytes found = found ≡ None
 
--- the line for a fault of a section, if there is one. What isn't UTF-8 in the name of the section becomes U+FFFD
-abbrev pub line_if : Format → List ℕ → List ℕ → Option SlotFault → List ℕ
-line_if format file section None = []
-line_if format file section (Some fault) = code_line format file (utf8_lossy section) fault
+-- what is reported of a section, if anything is
+abbrev pub IsFoundIn : Option GroupSet → List ℕ → ℕ → Option Finding → Type 0
+IsFoundIn target b i found = IsFoundIf (is_code b i) (order_of b) target (content b i) found
+
+-- whether a source line has a number and a name. Those of a canonical file have neither
+abbrev pub is_known : Line → Bool
+is_known source = nat_lt 0 source.line && nat_lt 0 (length source.file)
+
+-- a source line, if it has a number and a name
+abbrev pub known : Option Line → Option Line
+known None = None
+known (Some source) = if is_known source then Some source else None
+
+-- the line for what is reported of a section, if anything is. What isn't UTF-8 in the name of the section becomes U+FFFD
+abbrev pub line_if : Format → List ℕ → List ℕ → ℕ → Option Finding → List ℕ
+line_if format file b i None = []
+line_if format file b i (Some found) = code_line format file (utf8_lossy (name b i)) found (known (source_line b i found.pos))
 
 -- the lines for the first n sections
-abbrev pub AreCodeLines : Format → List ℕ → List ℕ → ℕ → List ℕ → Type 0
-AreCodeLines format file b zero lines = lines ≡ []
-AreCodeLines format file b (suc n) lines =
-    (before : List ℕ) × ((found : Option SlotFault)
-    × (AreCodeLines format file b n before × (IsFoundIn b n found × (lines ≡ before ++ line_if format file (name b n) found))))
+abbrev pub AreCodeLines : Format → Option GroupSet → List ℕ → List ℕ → ℕ → List ℕ → Type 0
+AreCodeLines format target file b zero lines = lines ≡ []
+AreCodeLines format target file b (suc n) lines =
+    (before : List ℕ) × ((found : Option Finding)
+    × (AreCodeLines format target file b n before × (IsFoundIn target b n found × (lines ≡ before ++ line_if format file b n found))))

@@ -1,11 +1,11 @@
 -- The lines of check, in its formats.
-use Rattle.std.specs.Prelude.{◌==◌, if◌then◌else◌, ◌++◌, ℕ, false, List, [], codes, decimal, encode_utf8}
+use Rattle.std.specs.Prelude.{◌==◌, if◌then◌else◌, ◌++◌, ℕ, false, List, [], Option, Some, None, codes, decimal, encode_utf8}
 use Rattle.std.specs.List.{flat_map}
-use Rattle.std.specs.{Fmt.digits, Str.chars}
-use Rattle.bpf_insn.specs.{CauseNames.cause_name, declared.fault.SlotFault.SlotFault}
+use Rattle.std.specs.{Fmt.digits, Str.chars, Str.Lossy.utf8_lossy}
+use Rattle.bpf_object.specs.SourceLines.{Line}
 use Rattle.bpfcanon_object.specs.Escape.{escaped, is_control, two_digits}
-use Rattle.bpfcanon_object.specs.Lines.{newline}
-use Rattle.bpfcanon_object.specs.declared.check.{Format.Format, Part.Part}
+use Rattle.bpfcanon_object.specs.{Findings.reason_text, Lines.newline}
+use Rattle.bpfcanon_object.specs.declared.{check.Format.Format, check.Part.Part, finding.Finding.Finding}
 use Rattle.bpfcanon_object.specs.declared.check.Format.TheVariants.{Text, Json, Github}
 use Rattle.bpfcanon_object.specs.declared.check.Part.TheVariants.{Property, Message}
 
@@ -58,22 +58,47 @@ github_line name pos cause =
     ++ (codes "::" ++ (github_text Message (escaped name)
     ++ (codes ": " ++ (decimal pos ++ (codes ": " ++ (github_text Message cause ++ newline)))))))
 
--- where a fault of code is, and its cause: SECTION+0xOFFSET: CAUSE
-abbrev pub code_place : List ℕ → SlotFault → List ℕ
-code_place section fault =
-    escaped section ++ (codes "+0x" ++ (digits 16 false fault.pos ++ (codes ": " ++ cause_name fault.cause)))
+-- where code is reported, and why: SECTION+0xOFFSET: REASON
+abbrev pub code_place : List ℕ → Finding → List ℕ
+code_place section found =
+    escaped section ++ (codes "+0x" ++ (digits 16 false found.pos ++ (codes ": " ++ reason_text found.reason)))
 
--- the members for a fault of code
-abbrev pub json_code : List ℕ → ℕ → List ℕ → List ℕ
-json_code section pos cause =
-    codes "\"section\":\"" ++ (json_text section ++ (codes "\",\"offset\":" ++ (decimal pos
-    ++ (codes ",\"text\":\"" ++ (cause ++ codes "\"")))))
+-- the name of a source file. What isn't UTF-8 in it becomes U+FFFD
+abbrev pub source_name : Line → List ℕ
+source_name source = escaped (utf8_lossy source.file)
 
--- the line for a fault of code: its section, the offset there, and its cause
-abbrev pub code_line : Format → List ℕ → List ℕ → SlotFault → List ℕ
-code_line Text name section fault = escaped name ++ (codes ": " ++ (code_place section fault ++ newline))
-code_line Json name section fault = json_line name (json_code section fault.pos (cause_name fault.cause))
-code_line Github name section fault =
-    codes "::error file=" ++ (github_text Property (escaped name)
+-- a source line as compilers write it, if it is known
+abbrev pub text_source : Option Line → List ℕ
+text_source None = []
+text_source (Some source) =
+    codes " at " ++ (source_name source ++ (codes ":" ++ (decimal source.line ++ (codes ":" ++ decimal source.column))))
+
+-- the members for a source line, if it is known
+abbrev pub json_source : Option Line → List ℕ
+json_source None = []
+json_source (Some source) =
+    codes ",\"source\":\"" ++ (json_text (utf8_lossy source.file) ++ (codes "\",\"line\":" ++ (decimal source.line
+    ++ (codes ",\"column\":" ++ decimal source.column))))
+
+-- the properties of a workflow command: the source line if it is known, and the file otherwise
+abbrev pub github_source : List ℕ → Option Line → List ℕ
+github_source name None = codes "file=" ++ github_text Property (escaped name)
+github_source name (Some source) =
+    codes "file=" ++ (github_text Property (source_name source) ++ (codes ",line=" ++ (decimal source.line
+    ++ (codes ",col=" ++ decimal source.column))))
+
+-- the members for what is reported of code
+abbrev pub json_code : List ℕ → Finding → Option Line → List ℕ
+json_code section found source =
+    codes "\"section\":\"" ++ (json_text section ++ (codes "\",\"offset\":" ++ (decimal found.pos
+    ++ (codes ",\"text\":\"" ++ (reason_text found.reason ++ (codes "\"" ++ json_source source))))))
+
+-- the line for what is reported of code: the section, the offset there, the reason, and the source line if it is known
+abbrev pub code_line : Format → List ℕ → List ℕ → Finding → Option Line → List ℕ
+code_line Text name section found source =
+    escaped name ++ (codes ": " ++ (code_place section found ++ (text_source source ++ newline)))
+code_line Json name section found source = json_line name (json_code section found source)
+code_line Github name section found source =
+    codes "::error " ++ (github_source name source
     ++ (codes "::" ++ (github_text Message (escaped name)
-    ++ (codes ": " ++ (github_text Message (code_place section fault) ++ newline)))))
+    ++ (codes ": " ++ (github_text Message (code_place section found) ++ newline)))))

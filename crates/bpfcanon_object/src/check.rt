@@ -1,6 +1,8 @@
 //! `check`: whether each file is accepted, for readers, programs and GitHub Actions.
 
 ghost use Rattle.std.specs.Prelude.{◌≡◌, ◌++◌, IfOk, OnOk, string_bytes, true};
+ghost use Rattle.bpf_object.specs.declared.fault.ObjectFault.{ObjectFault};
+ghost use Rattle.bpf_object.specs.declared.fault.ObjectError.TheVariants.{Fault};
 ghost use Rattle.bpfcanon_object.specs.Answers as answers;
 ghost use Rattle.bpfcanon_object.specs.Answers.{IsAcceptedAnswer, IsAnswerWith, IsCheckAnswer};
 ghost use Rattle.bpfcanon_object.specs.Answers.{IsFaultAnswer};
@@ -9,12 +11,11 @@ ghost use Rattle.bpfcanon_object.specs.Formats as spec;
 ghost use Rattle.bpfcanon_object.specs.declared.check.Format.TheVariants.{Json, Github};
 
 use crate::answer::{Answer, Status, fault_answer};
-use crate::code::accepted;
 use crate::code_lines::code_lines;
 use crate::desk::Stop;
 use crate::escape::{escaped, is_control, push_digits};
-use bpf_elf::Elf;
-use bpf_object::{ObjectError, ObjectFault};
+use bpf_insn::GroupSet;
+use bpf_object::{AcceptedObject, ObjectError, ObjectFault};
 use std::alloc::{AllocError, Allocator};
 
 /// How answers are written.
@@ -127,7 +128,7 @@ fn accepted_lines<A: Allocator + Copy>(
     }
 }
 
-/// The status for lines of faults of code.
+/// The status for the lines of code.
 fn code_status(faults: &str) -> Status
     ensures { result ≡ answers.code_status faults.now }
 {
@@ -138,7 +139,7 @@ fn code_status(faults: &str) -> Status
     }
 }
 
-/// An answer of the lines for a file, and those of the faults of its code.
+/// An answer of the lines for a file, and those of its code.
 fn answer_with<A: Allocator + Copy>(
     alloc: A,
     format: Format,
@@ -164,13 +165,14 @@ fn answer_with<A: Allocator + Copy>(
 fn accepted_answer<A: Allocator + Copy>(
     alloc: A,
     format: Format,
+    target: Option<GroupSet>,
     name: &str,
-    elf: &Elf<'_>,
+    object: &AcceptedObject<'_>,
 ) -> Result<Answer<A>, AllocError>
-    ensures { IfOk result (IsAcceptedAnswer format name.now elf.now) }
+    ensures { IfOk result (IsAcceptedAnswer format target name.now object.now) }
 {
     let lines = accepted_lines(alloc, format, name)?;
-    let faults = code_lines(alloc, format, name, elf)?;
+    let faults = code_lines(alloc, format, target, name, object)?;
     answer_with(alloc, format, lines, faults)
 }
 
@@ -266,7 +268,24 @@ fn refused_answer<A: Allocator + Copy>(
     }
 }
 
-/// The answer for the bytes of a file.
+/// The answer for a file that can't be accepted, unless memory ran out.
+fn error_answer<A: Allocator + Copy>(
+    alloc: A,
+    format: Format,
+    name: &str,
+    error: ObjectError,
+) -> Result<Answer<A>, Stop>
+    ensures { IfOk result (λ answer. (fault : ObjectFault)
+        × ((error ≡ Fault fault) × IsFaultAnswer format name.now fault answer)) }
+{
+    match error {
+        ObjectError::Fault(fault) => Ok(refused_answer(alloc, format, name, fault)?),
+        ObjectError::Memory => Err(Stop::Memory),
+    }
+}
+
+/// The answer for the bytes of a file. With a target it also reports instructions that are in none
+/// of its groups.
 ///
 /// # Errors
 ///
@@ -274,14 +293,14 @@ fn refused_answer<A: Allocator + Copy>(
 pub fn check_answer<A: Allocator + Copy>(
     alloc: A,
     format: Format,
+    target: Option<GroupSet>,
     name: &str,
     bytes: &[u8],
 ) -> Result<Answer<A>, Stop>
-    ensures { IfOk result (IsCheckAnswer format name.now bytes.now) }
+    ensures { IfOk result (IsCheckAnswer format target name.now bytes.now) }
 {
-    match accepted(alloc, bytes) {
-        Ok(elf) => Ok(accepted_answer(alloc, format, name, &elf)?),
-        Err(ObjectError::Fault(fault)) => Ok(refused_answer(alloc, format, name, fault)?),
-        Err(ObjectError::Memory) => Err(Stop::Memory),
+    match AcceptedObject::read(alloc, bytes) {
+        Ok(object) => Ok(accepted_answer(alloc, format, target, name, &object)?),
+        Err(error) => error_answer(alloc, format, name, error),
     }
 }

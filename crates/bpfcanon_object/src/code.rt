@@ -1,28 +1,16 @@
-//! The code of a file that is accepted, and its faults.
+//! The code of a file that is accepted, and what is reported of it.
 
-ghost use Rattle.std.specs.Prelude.{◌≡◌, ◌<◌, List, ℕ, MatchResult};
+ghost use Rattle.std.specs.Prelude.{◌≡◌, ◌<◌};
 ghost use Rattle.bpf_elf.specs.Numbers.{count};
-ghost use Rattle.bpf_object.specs.{Denotes.Denotes, ObjectFaults.Fails, Objects.Object};
 ghost use Rattle.bpfcanon_object.specs.Code as spec;
 ghost use Rattle.bpfcanon_object.specs.Code.{IsFound, IsFoundIn};
 
+use crate::finding::{Finding, Reason};
+use crate::target::first_outside;
 use bpf_elf::{Elf, Kind};
-use bpf_insn::{Order, SlotFault, first_fault};
-use bpf_object::{ObjectError, canon_object};
-use std::alloc::Allocator;
+use bpf_insn::{GroupSet, Order, first_fault};
 
 const SHF_EXECINSTR: u64 = 0x4;
-
-/// The sections and symbols of a file that is accepted: it has a canonical file.
-pub fn accepted<A: Allocator + Copy>(alloc: A, bytes: &[u8]) -> Result<Elf<'_>, ObjectError>
-    ensures { MatchResult result
-        (λ elf. (elf ≡ bytes.now) × ((x : Object) × Denotes bytes.now x))
-        (Fails bytes.now) }
-{
-    let elf = Elf::read(bytes)?;
-    canon_object(alloc, bytes)?;
-    Ok(elf)
-}
 
 /// Whether a section is code.
 fn is_code(elf: &Elf<'_>, i: usize) -> bool
@@ -32,21 +20,28 @@ fn is_code(elf: &Elf<'_>, i: usize) -> bool
     elf.kind(i) == Some(Kind::Data) && elf.section(i).flags / SHF_EXECINSTR % 2 == 1
 }
 
-/// The first fault of instructions, if they have one.
-fn found(order: Order, bytes: &[u8]) -> Option<SlotFault>
-    ensures { IsFound order bytes.now result }
+/// What is reported of instructions, if anything is.
+fn found(order: Order, target: Option<GroupSet>, bytes: &[u8]) -> Option<Finding>
+    ensures { IsFound order target bytes.now result }
 {
-    first_fault(order, bytes)
+    match first_fault(order, bytes) {
+        Some(fault) => {
+            let reason = Reason::Fault(fault.cause);
+            let pos = fault.pos;
+            Some(Finding { pos, reason })
+        }
+        None => first_outside(order, bytes, target?),
+    }
 }
 
-/// The first fault of the instructions of a section, if it is code and has one. Its offset is in
-/// bytes from the start of the section.
-pub fn fault_in(elf: &Elf<'_>, i: usize) -> Option<SlotFault>
+/// What is reported of a section, if it is code and anything is. The offset is in bytes from the
+/// start of the section.
+pub fn found_in(target: Option<GroupSet>, elf: &Elf<'_>, i: usize) -> Option<Finding>
     requires { i < count elf.now }
-    ensures { IsFoundIn elf.now i result }
+    ensures { IsFoundIn target elf.now i result }
 {
     if is_code(elf, i) {
-        found(elf.order(), elf.content(i))
+        found(elf.order(), target, elf.content(i))
     } else {
         None
     }

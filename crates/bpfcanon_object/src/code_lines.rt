@@ -1,73 +1,81 @@
-//! The lines of `check` for faults of code.
+//! The lines of `check` for what is reported of code.
 
-ghost use Rattle.std.specs.Prelude.{◌≡◌, ◌<◌, ◌++◌, Option, IfOk, OnOk, string_bytes};
+ghost use Rattle.std.specs.Prelude.{◌≡◌, ◌<◌, ◌++◌, Option, IfOk, OnOk, option_map, string_bytes};
 ghost use Rattle.bpf_elf.specs.Numbers.{count};
-ghost use Rattle.bpf_insn.specs.declared.fault.SlotFault.{SlotFault};
-ghost use Rattle.bpf_elf.specs.Sections.{name as section_name};
+ghost use Rattle.bpf_object.specs.SourceLines.{line_value};
 ghost use Rattle.bpfcanon_object.specs.Code as code_spec;
 ghost use Rattle.bpfcanon_object.specs.Code.{AreCodeLines, IsFoundIn};
 ghost use Rattle.bpfcanon_object.specs.Formats as spec;
-ghost use Rattle.bpfcanon_object.specs.declared.check.Format.TheVariants.{Text, Github};
+ghost use Rattle.bpfcanon_object.specs.declared.check.Format.TheVariants.{Text, Json, Github};
+ghost use Rattle.bpfcanon_object.specs.declared.finding.Finding.{Finding};
 
 use crate::check::{Format, Part, github_text, json_line, json_text};
-use crate::code::fault_in;
+use crate::code::found_in;
 use crate::escape::escaped;
-use bpf_elf::Elf;
-use bpf_insn::SlotFault;
+use crate::finding::Finding;
+use crate::sources::{github_source, json_source, known, text_source};
+use bpf_insn::GroupSet;
+use bpf_object::{AcceptedObject, SourceLine};
 use std::alloc::{AllocError, Allocator};
 
-/// Where a fault is, and its cause: `SECTION+0xOFFSET: CAUSE`.
+/// A place in a section, and why it is reported: `SECTION+0xOFFSET: REASON`.
 fn code_place<A: Allocator + Copy>(
     alloc: A,
     section: &str,
-    fault: SlotFault,
+    found: Finding,
 ) -> Result<String<A>, AllocError>
-    ensures { IfOk result (λ place. string_bytes place ≡ spec.code_place section.now fault) }
+    ensures { IfOk result (λ place. string_bytes place ≡ spec.code_place section.now found) }
 {
     let section = escaped(alloc, section)?;
-    let SlotFault { pos, cause } = fault;
-    format!(in alloc; "{section}+0x{pos:x}: {cause}")
+    let Finding { pos, reason } = found;
+    let reason = reason.text(alloc)?;
+    format!(in alloc; "{section}+0x{pos:x}: {reason}")
 }
 
 fn text_line<A: Allocator + Copy>(
     alloc: A,
     name: &str,
     section: &str,
-    fault: SlotFault,
+    found: Finding,
+    source: Option<SourceLine<'_>>,
 ) -> Result<String<A>, AllocError>
     ensures { IfOk result (λ line. string_bytes line
-        ≡ spec.code_line Text name.now section.now fault) }
+        ≡ spec.code_line Text name.now section.now found (option_map line_value source.entry)) }
 {
     let name = escaped(alloc, name)?;
-    let place = code_place(alloc, section, fault)?;
-    format!(in alloc; "{name}: {place}\n")
+    let place = code_place(alloc, section, found)?;
+    let source = text_source(alloc, source)?;
+    format!(in alloc; "{name}: {place}{source}\n")
 }
 
-/// The members of a JSON object for a fault.
+/// The members of a JSON object for a place in a section, why it is reported, and its source line.
 fn json_code<A: Allocator + Copy>(
     alloc: A,
     section: &str,
-    pos: u64,
-    cause: &str,
+    found: Finding,
+    source: Option<SourceLine<'_>>,
 ) -> Result<String<A>, AllocError>
-    ensures { IfOk result (λ members.
-        string_bytes members ≡ spec.json_code section.now pos cause.now) }
+    ensures { IfOk result (λ members. string_bytes members
+        ≡ spec.json_code section.now found (option_map line_value source.entry)) }
 {
     let section = json_text(alloc, section)?;
-    format!(in alloc; "\"section\":\"{section}\",\"offset\":{pos},\"text\":\"{cause}\"")
+    let Finding { pos, reason } = found;
+    let reason = reason.text(alloc)?;
+    let source = json_source(alloc, source)?;
+    format!(in alloc; "\"section\":\"{section}\",\"offset\":{pos},\"text\":\"{reason}\"{source}")
 }
 
 fn json_code_line<A: Allocator + Copy>(
     alloc: A,
     name: &str,
     section: &str,
-    pos: u64,
-    cause: &str,
+    found: Finding,
+    source: Option<SourceLine<'_>>,
 ) -> Result<String<A>, AllocError>
     ensures { IfOk result (λ line. string_bytes line
-        ≡ spec.json_line name.now (spec.json_code section.now pos cause.now)) }
+        ≡ spec.code_line Json name.now section.now found (option_map line_value source.entry)) }
 {
-    let members = json_code(alloc, section, pos, cause)?;
+    let members = json_code(alloc, section, found, source)?;
     json_line(alloc, name, members.as_str())
 }
 
@@ -75,85 +83,99 @@ fn github_code_line<A: Allocator + Copy>(
     alloc: A,
     name: &str,
     section: &str,
-    fault: SlotFault,
+    found: Finding,
+    source: Option<SourceLine<'_>>,
 ) -> Result<String<A>, AllocError>
     ensures { IfOk result (λ line. string_bytes line
-        ≡ spec.code_line Github name.now section.now fault) }
+        ≡ spec.code_line Github name.now section.now found (option_map line_value source.entry)) }
 {
+    let source = github_source(alloc, name, source)?;
     let name = escaped(alloc, name)?;
-    let place = code_place(alloc, section, fault)?;
-    let file = github_text(alloc, Part::Property, name.as_str())?;
+    let place = code_place(alloc, section, found)?;
     let name = github_text(alloc, Part::Message, name.as_str())?;
     let text = github_text(alloc, Part::Message, place.as_str())?;
-    format!(in alloc; "::error file={file}::{name}: {text}\n")
+    format!(in alloc; "::error {source}::{name}: {text}\n")
 }
 
-/// The line for a fault of a section.
+/// The line for what is reported of a section.
 fn code_line<A: Allocator + Copy>(
     alloc: A,
     format: Format,
     name: &str,
     section: &str,
-    fault: SlotFault,
+    found: Finding,
+    source: Option<SourceLine<'_>>,
 ) -> Result<String<A>, AllocError>
     ensures { IfOk result (λ line. string_bytes line
-        ≡ spec.code_line format name.now section.now fault) }
+        ≡ spec.code_line format name.now section.now found (option_map line_value source.entry)) }
 {
     match format {
-        Format::Text => text_line(alloc, name, section, fault),
-        Format::Json => json_code_line(alloc, name, section, fault.pos, fault.cause.name()),
-        Format::Github => github_code_line(alloc, name, section, fault),
+        Format::Text => text_line(alloc, name, section, found, source),
+        Format::Json => json_code_line(alloc, name, section, found, source),
+        Format::Github => github_code_line(alloc, name, section, found, source),
     }
 }
 
-/// The line for a fault of a section, if there is one.
+/// The line for what is reported of a section, if anything is.
 fn line_if<A: Allocator + Copy>(
     alloc: A,
     format: Format,
     name: &str,
-    section: &[u8],
-    found: Option<SlotFault>,
+    object: &AcceptedObject<'_>,
+    i: usize,
+    found: Option<Finding>,
 ) -> Result<String<A>, AllocError>
+    requires { i < count object.now }
     ensures { IfOk result (λ line.
-        string_bytes line ≡ code_spec.line_if format name.now section.now found) }
+        string_bytes line ≡ code_spec.line_if format name.now object.now i found) }
 {
     match found {
-        Some(fault) => {
-            let section = String::from_utf8_lossy(alloc, section)?;
-            code_line(alloc, format, name, section.as_str(), fault)
+        Some(found) => {
+            let section = String::from_utf8_lossy(alloc, object.elf().name(i))?;
+            let source = known(object.source_line(i, found.pos));
+            code_line(alloc, format, name, section.as_str(), found, source)
         }
         None => Ok(String::new(alloc)),
     }
 }
 
-/// The line for the fault of a section, if it has one.
+/// The line for a section of a file, if anything is reported of it.
 fn section_line<A: Allocator + Copy>(
     alloc: A,
     format: Format,
+    target: Option<GroupSet>,
     name: &str,
-    elf: &Elf<'_>,
+    object: &AcceptedObject<'_>,
     i: usize,
 ) -> Result<String<A>, AllocError>
-    requires { i < count elf.now }
-    ensures { IfOk result (λ line. (found : Option SlotFault) × (IsFoundIn elf.now i found
-        × (string_bytes line ≡ code_spec.line_if format name.now (section_name elf.now i) found))) }
+    requires { i < count object.now }
+    ensures { IfOk result (λ line. (found : Option Finding) × (IsFoundIn target object.now i found
+        × (string_bytes line ≡ code_spec.line_if format name.now object.now i found))) }
 {
-    line_if(alloc, format, name, elf.name(i), fault_in(elf, i))
+    line_if(
+        alloc,
+        format,
+        name,
+        object,
+        i,
+        found_in(target, object.elf(), i),
+    )
 }
 
-/// The lines for the faults of all sections.
+/// The lines for what is reported of all sections.
 pub fn code_lines<A: Allocator + Copy>(
     alloc: A,
     format: Format,
+    target: Option<GroupSet>,
     name: &str,
-    elf: &Elf<'_>,
+    object: &AcceptedObject<'_>,
 ) -> Result<String<A>, AllocError>
-    ensures { IfOk result (λ lines.
-        AreCodeLines format name.now elf.now (count elf.now) (string_bytes lines)) }
+    ensures { IfOk result (λ lines. AreCodeLines format target name.now object.now
+        (count object.now) (string_bytes lines)) }
 {
     let mut lines = String::new(alloc);
-    for i in 0..elf.section_count() {
-        let line = section_line(alloc, format, name, elf, i)?;
+    for i in 0..object.elf().section_count() {
+        let line = section_line(alloc, format, target, name, object, i)?;
         lines.push_str(line.as_str())?;
     }
     Ok(lines)

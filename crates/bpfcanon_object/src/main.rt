@@ -9,11 +9,14 @@ mod code_lines;
 mod desk;
 mod escape;
 mod files;
+mod finding;
 mod folder;
 mod key;
 mod key_list;
 mod run;
 mod same;
+mod sources;
+mod target;
 mod words;
 
 use crate::answer::Status;
@@ -21,6 +24,7 @@ use crate::check::Format;
 use crate::desk::{Desk, Stop};
 use crate::escape::escaped;
 use crate::run::run;
+use crate::target::group_names;
 use crate::words::{Request, program, request_of};
 use clap::error::ErrorKind;
 use std::alloc::{AllocError, Global};
@@ -48,7 +52,8 @@ fn printed(alloc: Global, words: &[String]) -> Result<Vec<String>, AllocError> {
 fn explain<R: Print + Eprint + AllocGlobal>(rt: &R, words: &[String]) -> Result<Status, Stop> {
     let alloc = rt.alloc();
     let shown = printed(alloc, words)?;
-    let command = program(alloc, Format::NAMES.as_slice())?;
+    let groups = group_names(alloc)?;
+    let command = program(alloc, Format::NAMES.as_slice(), groups.as_slice())?;
     let Err(error) = command.try_get_matches_from(shown.as_slice()) else {
         return Ok(report(rt, "the arguments are wrong"));
     };
@@ -75,7 +80,8 @@ fn run_request(rt: &HostRuntime, request: Request<'_>) -> Result<Status, Stop> {
 
 /// Runs a command line.
 fn run_words(rt: &HostRuntime, words: &[String]) -> Result<Status, Stop> {
-    let command = program(rt.alloc(), Format::NAMES.as_slice())?;
+    let groups = group_names(rt.alloc())?;
+    let command = program(rt.alloc(), Format::NAMES.as_slice(), groups.as_slice())?;
     match command.try_get_matches_from(words) {
         Ok(matches) => match request_of(&matches) {
             Some(request) => run_request(rt, request),

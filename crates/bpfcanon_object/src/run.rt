@@ -8,7 +8,9 @@ use crate::folder::Folder;
 use crate::key::{Key, key_answer};
 use crate::key_list::{read_row, row_answer, unread_row_answer};
 use crate::same::same_answer;
+use crate::target::target_of;
 use crate::words::Request;
+use bpf_insn::GroupSet;
 use bpf_object::{ObjectError, ObjectFault, SameError, canon_object, object_key, same_objects};
 use std::alloc::Global;
 use std::io::{Error, Write};
@@ -19,7 +21,7 @@ use std::{fs, str};
 #[derive(Clone, Copy)]
 enum Each {
     Key,
-    Check(Format),
+    Check(Format, Option<GroupSet>),
 }
 
 /// A result of the library without the error of memory, which ends the program.
@@ -36,7 +38,7 @@ impl Each {
     fn answer(self, alloc: Global, name: &str, bytes: &[u8]) -> Result<Answer, Stop> {
         match self {
             Each::Key => Ok(key_answer(alloc, name, judged(object_key(alloc, bytes))?)?),
-            Each::Check(format) => check_answer(alloc, format, name, bytes),
+            Each::Check(format, target) => check_answer(alloc, format, target, name, bytes),
         }
     }
 }
@@ -239,6 +241,21 @@ fn run_lists<R: Files + Input + AllocGlobal, O: Write, E: Write>(
     Ok(())
 }
 
+/// Checks files, with a target if its groups are given.
+fn run_check<R: Files + Input + AllocGlobal + Clone + Drop, O: Write, E: Write>(
+    rt: &R,
+    desk: &mut Desk<O, E>,
+    format: Format,
+    groups: Option<&[&str]>,
+    files: &[&str],
+) -> Result<(), Stop> {
+    let target = match groups {
+        Some(names) => Some(target_of(rt.alloc(), names)?),
+        None => None,
+    };
+    run_files(rt, desk, Each::Check(format, target), files)
+}
+
 /// Does what a command line asks for.
 ///
 /// # Errors
@@ -255,6 +272,10 @@ pub fn run<R: Files + Input + AllocGlobal + Clone + Drop, O: Write, E: Write>(
         Request::Key(files) => run_files(rt, desk, Each::Key, files),
         Request::KeyCheck(lists) => run_lists(rt, desk, lists),
         Request::Same { first, second } => run_same(rt, desk, first, second),
-        Request::Check { format, files } => run_files(rt, desk, Each::Check(format), files),
+        Request::Check {
+            format,
+            groups,
+            files,
+        } => run_check(rt, desk, format, groups, files),
     }
 }

@@ -15,7 +15,7 @@ all object files in it and in the folders in it.
 
 Exit status:
   0  yes: accepted, the same
-  1  no: a file is refused, its code has a fault, or two differ
+  1  no: a file is refused, its code has a fault or isn't in the target, or two differ
   2  no answer: the arguments, a file that can't be read or written, or memory";
 
 /// What a command line asks for. Names are as they were given.
@@ -43,6 +43,8 @@ pub enum Request<'a> {
     Check {
         /// How the answers are written.
         format: Format,
+        /// The names of the groups of the target, if there is one.
+        groups: Option<&'a [&'a str]>,
         /// The files.
         files: &'a [&'a str],
     },
@@ -87,7 +89,17 @@ fn same_command<'a>(alloc: Global) -> Result<Command<'a>, AllocError> {
         .arg(file_arg(alloc, "second"))
 }
 
-fn check_command<'a>(alloc: Global, formats: &'a [&'a str]) -> Result<Command<'a>, AllocError> {
+fn check_command<'a>(
+    alloc: Global,
+    formats: &'a [&'a str],
+    groups: &'a [&'a str],
+) -> Result<Command<'a>, AllocError> {
+    let target = Arg::new(alloc, "target")
+        .long("target")
+        .value_name("GROUPS")
+        .value_delimiter(',')
+        .value_parser(groups)
+        .help("Also reports the first instruction in none of these conformance groups (RFC 9669)");
     let format = Arg::new(alloc, "format")
         .long("format")
         .value_name("FORMAT")
@@ -98,12 +110,17 @@ fn check_command<'a>(alloc: Global, formats: &'a [&'a str]) -> Result<Command<'a
         .about(
             "Says of each file that it is accepted, or its first fault, and the faults of its code",
         )
+        .arg(target)?
         .arg(format)?
         .arg(files_arg(alloc))
 }
 
-/// The command line. It borrows the names of the formats.
-pub fn program<'a>(alloc: Global, formats: &'a [&'a str]) -> Result<Command<'a>, AllocError> {
+/// The command line. It borrows the names of the formats and of the groups.
+pub fn program<'a>(
+    alloc: Global,
+    formats: &'a [&'a str],
+    groups: &'a [&'a str],
+) -> Result<Command<'a>, AllocError> {
     Command::new(alloc, "bpfcanon-object")
         .bin_name("bpfcanon-object")?
         .version(VERSION)
@@ -114,7 +131,7 @@ pub fn program<'a>(alloc: Global, formats: &'a [&'a str]) -> Result<Command<'a>,
         .subcommand(canon_command(alloc)?)?
         .subcommand(key_command(alloc)?)?
         .subcommand(same_command(alloc)?)?
-        .subcommand(check_command(alloc, formats)?)
+        .subcommand(check_command(alloc, formats, groups)?)
 }
 
 /// What a command line that clap has accepted asks for.
@@ -136,6 +153,7 @@ where
         }),
         _ => Some(Request::Check {
             format: Format::named(inner.get_str("format")?),
+            groups: inner.get_strs("target"),
             files: inner.get_strs("files")?,
         }),
     }

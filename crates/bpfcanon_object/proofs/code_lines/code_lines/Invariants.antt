@@ -3,4 +3,4 @@ use Rattle.bpfcanon_object.specs.Code.{AreCodeLines}
 use Rattle.bpfcanon_object.proofs.code_lines.code_lines.Given as goal
 
 abbrev pub invariant-loop-i : goal.invariant-loop-i
-invariant-loop-i g l = AreCodeLines l.format l.name l.elf l.i (string_bytes l.lines)
+invariant-loop-i g l = AreCodeLines l.format l.target l.name l.object l.i (string_bytes l.lines)
