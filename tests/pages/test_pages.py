@@ -7,6 +7,8 @@ import re
 import shlex
 import subprocess
 
+import pytest
+
 from tests.needs import need
 from tests import TOP
 from tests.commands import ALL_OPTIONS, COMMANDS, INSN_ENGINE, LIMITS, OPTIONS, constants
@@ -17,6 +19,7 @@ from tests.reference.formats_page import cells, said
 README = (TOP / "README.md").read_text()
 HEADER = (TOP / "capi" / "bpfcanon.h").read_text()
 SOURCE = (TOP / "capi" / "bpfcanon.c").read_text()
+PAGES = sorted(TOP.glob("man/*.[13]"))
 COMMAND = TOP / "crates" / "bpfcanon"
 OUTCOME, MAIN, REPORTS = ((COMMAND / name).read_text() for name in ("src/outcome.rt", "src/main.rt", "specs/Outcome.antt"))
 
@@ -213,19 +216,19 @@ def test_library_page():
     assert has_example, "the example: it isn't that of docs/LIBRARY.md"
 
 
-def test_pages():
-    """The pages are without warnings and name one another."""
-    pages = [page_of(section) for section in (1, 3)]
-    for page in pages:
-        version = re.search(r'^\.TH BPFCANON \d "" "bpfcanon (.*?)"', page.read_text(), re.MULTILINE)
-        is_right = version is not None and f'#define BPFCANON_VERSION "{version[1]}"\n' in HEADER
-        assert is_right, f"{page.name}: its version isn't that of capi/bpfcanon.h"
-        need("man")
-        shown = shown_page(page)
-        assert shown.returncode == 0 and not shown.stderr, f"{page.name}: man prints {shown.stderr!r}"
-        _, _, last = shown.stdout.decode().partition("SEE ALSO")
-        others = [f"bpfcanon({other.suffix[1:]})" for other in pages if other != page]
-        assert all(other in last for other in others), f"{page.name}: SEE ALSO lacks one of {others}"
+@pytest.mark.parametrize("page", PAGES, ids=lambda it: it.name)
+def test_page(page):
+    """A page is without warnings, has the version, and names the others."""
+    version = re.search(r'^\.TH BPFCANON(?:\\-[A-Z]+)? \d "" "bpfcanon (.*?)"', page.read_text(), re.MULTILINE)
+    is_right = version is not None and f'#define BPFCANON_VERSION "{version[1]}"\n' in HEADER
+    assert is_right, f"{page.name}: its version isn't that of capi/bpfcanon.h"
+    need("man")
+    shown = shown_page(page)
+    assert shown.returncode == 0 and not shown.stderr, f"{page.name}: man prints {shown.stderr!r}"
+    _, _, last = shown.stdout.decode().partition("SEE ALSO")
+    others = [f"{other.stem}({other.suffix[1:]})" for other in PAGES if other != page]
+    missing = [other for other in others if not re.search(rf"(?<![\w-]){re.escape(other)}", last)]
+    assert not missing, f"{page.name}: SEE ALSO lacks {missing}"
 
 
 def test_library_example():

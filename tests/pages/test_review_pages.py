@@ -11,11 +11,10 @@ import sys
 import pytest
 
 from tests import TOP, zsh
-from tests.pages.test_pages import shown_page
 from tests.command import SECONDS
+from tests.pages.command_pages import CommandPages
 
-PAGE = TOP / "man" / "bpfcanon-review.1"
-BASH = TOP / "completions" / "bash" / "bpfcanon-review"
+PAGES = CommandPages("bpfcanon-review")
 OF_ALL = {"-h", "--help"}
 # The end of each help page.
 PROVED = ["What is proved: which files are accepted, and that two hold the same exactly if their canonical files are equal", "What is printed"]
@@ -43,30 +42,6 @@ def options_of(text):
     return {tuple(re.findall(r"(?<![\w-])--?[\w-]+", names)): text for names, text in rows}
 
 
-def manual():
-    """The options that the manual page has for each command, and for all."""
-    found = {}
-    commands = PAGE.read_text().partition(".SH COMMANDS")[2].partition(".SH OPTIONS")[0]
-    for name, body in re.findall(r"^\.SS (\w+)\n((?:(?!\.S[SH]).*\n)*)", commands, re.MULTILINE):
-        heads = re.findall(r"^\.TP\n(.*)$", body, re.MULTILINE)
-        found[name] = {it.replace(r"\-", "-") for head in heads for it in re.findall(r"(?<![\w-])(?:\\-){1,2}[a-zA-Z](?:\w|\\-)*", head)}
-    return found
-
-
-def synopsis():
-    """The options that the synopsis has for each command."""
-    lines = re.findall(r"^\\fBbpfcanon\\-review (\w+)\\fR(.*)$", PAGE.read_text(), re.MULTILINE)
-    plain = {name: re.sub(r"\\f[BIR]", "", rest).replace(r"\-", "-") for name, rest in lines}
-    return {name: set(re.findall(r"(?<![\w-])--?[a-zA-Z][\w-]*", rest)) for name, rest in plain.items()}
-
-
-def completed(line):
-    """What bash completes a line to."""
-    script = f'. "$0"; COMP_WORDS=({line}); COMP_CWORD=$((${{#COMP_WORDS[@]}} - 1)); _bpfcanon_review; printf "%s\\n" "${{COMPREPLY[@]}}"'
-    done = subprocess.run(["bash", "-euc", script, BASH], stdout=subprocess.PIPE, stderr=subprocess.STDOUT, text=True, timeout=SECONDS)
-    return sorted(done.stdout.split())
-
-
 @pytest.fixture(scope="module")
 def commands():
     return commands_of(helped())
@@ -86,9 +61,8 @@ def test_help(commands):
         assert is_right, (command or "--help", f"it lacks {missing}: {text[:200]}")
 
 
-@pytest.mark.needs("man")
 def test_manual(options):
-    found, short = manual(), synopsis()
+    found, short = PAGES.options(), PAGES.synopsis()
     assert list(found) == list(options), f"the commands: they are {list(found)}"
     assert list(short) == list(options), f"the synopsis: its commands are {list(short)}"
     for command, names in options.items():
@@ -97,14 +71,11 @@ def test_manual(options):
         first = {each[0] for each in names} - OF_ALL
         otherwise = f"they are {short.get(command)}, and right is {first}"
         assert short.get(command) == first, f"{command} in the synopsis: {otherwise}"
-    shown = shown_page(PAGE)
-    assert shown.returncode == 0 and not shown.stderr, f"{PAGE.name}: man prints {shown.stderr!r}"
 
 
 def test_statuses():
     """0 and 1, refused arguments, and an interrupt and a reader that is gone as a shell reports them."""
-    part = PAGE.read_text().partition(".SH EXIT STATUS\n")[2].partition(".SH ")[0]
-    listed = [it for line in re.findall(r"^\.TP\n\.B (.*)$", part, re.MULTILINE) for it in line.split(", ")]
+    listed = PAGES.statuses()
     read, write = os.pipe()
     os.close(read)
     unread = subprocess.run([*COMMAND, "--help"], env=ENVIRONMENT, stdout=write, timeout=SECONDS).returncode
@@ -116,14 +87,14 @@ def test_statuses():
 
 def test_bash(commands, options):
     long = {command: {names[-1] for names in texts} for command, texts in options.items()}
-    done = subprocess.run(["bash", "-c", '. "$0" && complete -p bpfcanon-review', BASH], stdout=subprocess.PIPE, text=True, timeout=SECONDS)
+    printed = PAGES.bash("complete -p bpfcanon-review")
     # A file with a blank is quoted, and a folder ends with a slash.
     right = "complete -o filenames -F _bpfcanon_review bpfcanon-review\n"
-    assert done.stdout == right, f"complete -p: it printed {done.stdout!r}"
-    words = completed("bpfcanon-review ''")
+    assert printed == right, f"complete -p: it printed {printed!r}"
+    words = PAGES.completed("bpfcanon-review ''")
     assert words == sorted([*commands, "--help", "--version"]), f"the commands: they are {words}"
     for command, names in long.items():
-        found = completed(f"bpfcanon-review {command} -")
+        found = PAGES.completed(f"bpfcanon-review {command} -")
         assert found == sorted(names), f"{command}: they are {found}, and right is {sorted(names)}"
 
 
