@@ -14,8 +14,9 @@ LIBDIR ?= lib
 PYTHON = $(shell tests/python_with pytest xdist markdown_it elftools || tests/python_with pytest xdist markdown_it || echo python3)
 PYTEST = $(PYTHON) -m pytest -n $(WORKERS) --dist loadgroup --durations=5
 WORKERS ?= $(shell nproc)
-COMMAND = crates/bpfcanon/out/bpfcanon
-OBJECT_COMMAND = crates/bpfcanon_object/out/bpfcanon_object
+# The crates of the commands, and what rt builds of them.
+PROGRAMS = bpfcanon bpfcanon_object
+COMMANDS = $(foreach it,$(PROGRAMS),crates/$(it)/out/$(it))
 ARCHIVE = crates/bpfcanon_c/out/libbpfcanon_c.a
 LIBRARY = out/prefix/include/bpfcanon.h
 VERSION := $(shell sed -n 's/^.define BPFCANON_VERSION "\(.*\)"$$/\1/p' capi/bpfcanon.h)
@@ -27,12 +28,12 @@ $(shell mkdir -p out)
 
 .PHONY: all demo demo-proved check check-quick check-tests check-c check-release prove record release-objects lint tools install uninstall
 .PHONY: dist wheel deb clean FORCE
-all: $(COMMAND) $(OBJECT_COMMAND) $(LIBRARY)
+all: $(COMMANDS) $(LIBRARY)
 
 # --- what Rattle builds: it knows itself what is new
-$(COMMAND): FORCE
+crates/bpfcanon/out/bpfcanon: FORCE
 	cd crates/bpfcanon && rt run < /dev/null
-$(OBJECT_COMMAND): FORCE
+crates/bpfcanon_object/out/bpfcanon_object: FORCE
 	cd crates/bpfcanon_object && rt run -- --version
 $(ARCHIVE): FORCE
 	capi/archive --keep 2>&1 | tee -a out/archive.log
@@ -43,10 +44,10 @@ demo demo-proved:
 	@cd crates/bpfcanon && rt $(if $(filter demo,$@),try,run) -- insn-canon --order big < $(DATA).big.bin | cmp - $(DATA).little.bin && \
 	echo 'right: the canonical bytes of the big-endian program are those of the little-endian one$(if $(filter demo,$@),. Nothing was proved)'
 
-# The command isn't a prerequisite: the sources of a release have the archive alone.
+# The commands aren't a prerequisite: the sources of a release have the archive alone.
 out/meson/build.ninja:
 	meson setup out/meson -Dcommand=false
-INSTALL = meson configure out/meson --prefix $(1) --libdir $(2) -Dcommand=$(if $(wildcard $(COMMAND)),true,false) && meson install -C out/meson --quiet
+INSTALL = meson configure out/meson --prefix $(1) --libdir $(2) -Dcommand=$(if $(filter-out $(wildcard $(COMMANDS)),$(COMMANDS)),false,true) && meson install -C out/meson --quiet
 $(LIBRARY): $(ARCHIVE) | out/meson/build.ninja
 	export DESTDIR= && $(call INSTALL,$(CURDIR)/out/prefix,lib)
 
@@ -69,8 +70,8 @@ check-quick: lint
 # A mutation that can't be applied shows nothing, and rt ci lets it pass. After its run rt ci puts the libraries of earlier checks back in
 # place of those that it proved, which the archive is made over.
 prove:
-	rm -rf out/PROVED.txt crates/*/out/rlib crates/bpfcanon_c/out/libbpfcanon_c*.a crates/bpfcanon/out/release
-	for crate in bpfcanon bpfcanon_c; do capi/sources $$crate; done > out/sources
+	rm -rf out/PROVED.txt crates/*/out/rlib crates/bpfcanon_c/out/libbpfcanon_c*.a crates/*/out/release
+	for crate in $(PROGRAMS) bpfcanon_c; do capi/sources $$crate; done > out/sources
 	rt ci 2>&1 | tee out/rt_ci.log && ! grep -qa 'BAD EDIT' out/rt_ci.log
 
 # The objects of the release are made meanwhile.
@@ -92,7 +93,7 @@ check-c: $(LIBRARY)
 
 # What was proved, and the hashes of what was built of it, unless the sources have changed since. A release needs this.
 record:
-	for crate in bpfcanon bpfcanon_c; do capi/sources $$crate; done | cmp - out/sources
+	for crate in $(PROGRAMS) bpfcanon_c; do capi/sources $$crate; done | cmp - out/sources
 	$(PYTHON) packaging/proved.py out/rt_ci.log out/archive.log out/objects.log > out/PROVED.txt || { rm out/PROVED.txt; exit 1; }
 check-release:
 	tests/release
@@ -122,7 +123,7 @@ wheel: $(LIBRARY)
 	cd $(WHEEL) && $(PYTHON) -m build -nw -C--global-option=bdist_wheel -C--global-option=--plat-name=manylinux2014_x86_64 -o ../dist
 deb:
 	rm -rf out/deb && mkdir -p out/dist && git archive --prefix=out/deb/tree/ HEAD | tar x
-	cp --parents $(COMMAND) $(ARCHIVE) $(wildcard THIRD-PARTY PROVED.txt) out/deb/tree
+	cp --parents $(COMMANDS) $(ARCHIVE) $(wildcard THIRD-PARTY PROVED.txt) out/deb/tree
 	cd out/deb/tree && PATH=/usr/sbin:/usr/bin:/sbin:/bin DEB_BUILD_OPTIONS="nocheck noautodbgsym" dpkg-buildpackage -b -us -uc
 	mv out/deb/*.deb out/dist
 clean:

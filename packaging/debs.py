@@ -3,14 +3,15 @@
 import os
 import shutil
 
-from tree import PROGRAM, TOP, VERSION, copy, epoch, run
+from tree import PROGRAMS, TOP, VERSION, copy, epoch, run
 
 
-def make_debs(program, source, out, work):
-    """Makes the packages from the folder of the sources, with the program that the archive for x86-64 has."""
+def make_debs(staged, source, out, work):
+    """Makes the packages from the folder of the sources, with the programs of the tree from which the archive for x86-64 is made."""
     tree = work / "deb" / f"bpfcanon-{VERSION}"
     shutil.copytree(source, tree)
-    copy(program, tree / PROGRAM.relative_to(TOP))
+    for program in (it.built.relative_to(TOP) for it in PROGRAMS):
+        copy(staged / program, tree / program)
     # debian/copyright has packaging/NO-LICENSE.
     head, named, _ = (tree / "debian" / "copyright").read_text().partition("License: bpfcanon\n")
     licence = "".join(f" {line}\n" if line else " .\n" for line in (source / "LICENSE").read_text().splitlines())

@@ -4,7 +4,7 @@ import os
 import pathlib
 import re
 
-from tree import ARCHIVE, ARM_ARCHIVE, OBJECT, PROGRAM, TOP, VERSION, Refused, copy, copy_files, filled, installed, run, standing_alone
+from tree import ARCHIVE, ARM_ARCHIVE, PROGRAMS, TOP, VERSION, Refused, copy, copy_files, filled, installed, run, standing_alone
 
 # The flags of the C part; the proved objects are as Rattle's compiler made them.
 CFLAGS = "-O2 -g0 -fstack-protector-strong -fcf-protection -D_FORTIFY_SOURCE=2"
@@ -31,15 +31,16 @@ def add_documents(folder, documents):
 
 
 def stage_tree(kit, documents, work):
-    """The sources with the program and the documents, from which files are installed. The program needs no C library."""
+    """The sources with the programs and the documents, from which files are installed. The programs need no C library."""
     tree = work / "tree"
     copy_files(tree)
     add_documents(tree, documents)
-    program = tree / PROGRAM.relative_to(TOP)
-    program.parent.mkdir()
-    # The program's object, and the check of the processor.
-    parts = [TOP / "capi" / "processor.c", OBJECT, kit / "c" / "libos_c.a", kit / "c" / "liblibc_c.a"]
-    run(["cc", *CFLAGS.split(), "-static-pie", *LDFLAGS.split(), "-Wl,--gc-sections", "-o", program, *parts])
+    for it in PROGRAMS:
+        program = tree / it.built.relative_to(TOP)
+        program.parent.mkdir()
+        # The program's object, and the check of the processor.
+        parts = [TOP / "capi" / "processor.c", it.object, kit / "c" / "libos_c.a", kit / "c" / "liblibc_c.a"]
+        run(["cc", *CFLAGS.split(), "-static-pie", *LDFLAGS.split(), "-Wl,--gc-sections", "-o", program, *parts])
     return tree
 
 
@@ -68,7 +69,7 @@ def complete(root, readme, machine):
 
 
 def stage_binary(tree, work):
-    """The folder of the program and the C library for x86-64, which runs without being installed."""
+    """The folder of the programs and the C library for x86-64, which runs without being installed."""
     root = work / f"bpfcanon-{VERSION}-x86_64-linux"
     install_library(tree, root, ARCHIVE)
     install_files(tree, root, "command", "pages")

@@ -1,11 +1,11 @@
-"""The licence of bpfcanon, or what it means that there is none, and those of the crates of Rattle's kit whose code is in the program and in
+"""The licence of bpfcanon, or what it means that there is none, and those of the crates of Rattle's kit whose code is in the programs and in
 the library.
 """
 
 import pathlib
 import re
 
-from tree import TOP, run
+from tree import PROGRAMS, TOP, run
 
 
 def find_kit():
@@ -20,10 +20,10 @@ def named_for(crates):
 
 
 def crates_in(objects):
-    """The crates whose code can be in the command and in the library, and all that have a symbol in some objects."""
+    """The crates whose code can be in the programs and in the library, and all that have a symbol in some objects."""
     symbols = "".join(run(["nm", it]) for it in objects)
     named = re.findall(r"^[ 0-9a-f]{16} \w <?([a-z_0-9]+)::", symbols, re.MULTILINE)
-    return sorted({*named, *named_for(["bpfcanon", "bpfcanon_c"])})
+    return sorted({*named, *named_for([*(it.crate for it in PROGRAMS), "bpfcanon_c"])})
 
 
 def third_party(kit, objects):
@@ -32,7 +32,7 @@ def third_party(kit, objects):
     for crate in crates_in(objects):
         found = sorted(it for it in (kit / "rattle" / crate).glob("LICENSE*") if "APACHE" not in it.name)
         texts += [f"== {crate} ({it.name})\n\n{it.read_text().strip()}\n" for it in found]
-    return "Code of these crates, ported to Rattle, is in the program and in the library.\n\n" + "\n".join(texts)
+    return "Code of these crates, ported to Rattle, is in the programs and in the library.\n\n" + "\n".join(texts)
 
 
 def licence():

@@ -1,8 +1,8 @@
-"""What make check recorded of the program and the archives that it passed: out/PROVED.txt.
+"""What make check recorded of the programs and the archives that it passed: out/PROVED.txt.
 
 usage: packaging/proved.py LOG..
 
-Prints the record: the hashes of the sources of the program and the archives, and those of the files that were built from them, the kit,
+Prints the record: the hashes of the sources of the programs and the archives, and those of the files that were built from them, the kit,
 and the verdicts, which are in the files LOG. make record calls it once all parts have passed.
 """
 
@@ -11,14 +11,14 @@ import pathlib
 import re
 import sys
 
-from tree import ARCHIVE, ARM_ARCHIVE, MADE_BY, OBJECT, PROGRAM, RECORD, TOP, Refused, run
+from tree import ARCHIVE, ARM_ARCHIVE, MADE_BY, PROGRAMS, RECORD, TOP, Refused, run
 
-BUILT = [PROGRAM, OBJECT, ARCHIVE, ARM_ARCHIVE]
+BUILT = [*(file for it in PROGRAMS for file in (it.built, it.object)), ARCHIVE, ARM_ARCHIVE]
 UNVERIFIED = "Not verified: these files were made from a tree that make check has not passed.\n"
 MEANING = """\
 Passed by make check. A line with logic=proved is a verdict of the prover: each function of the crate
 meets its contract. The lines above it that end in "reached" name the functions of C whose contracts
-it assumes (docs/TRUST.md of the sources). The program and the archives of a release are compiled
+it assumes (docs/TRUST.md of the sources). The programs and the archives of a release are compiled
 from these sources for x86-64 (target=x86_64-unknown-linux-gnu), and the C library for 64-bit ARM
 from the same ones (target=aarch64-unknown-linux-gnu); a verdict with a target is that of such a
 build. What is compiled is the code that was proved. The compiler, LLVM, isn't proved, for either
@@ -37,8 +37,9 @@ def sums(built):
 
 
 def sources():
-    """A line for what the program and the archives are made from."""
-    return [f"{run([TOP / 'capi' / 'sources', crate]).strip()}  sources of {crate}" for crate in ("bpfcanon", "bpfcanon_c")]
+    """A line for what each program and the archives are made from."""
+    crates = [*(it.crate for it in PROGRAMS), "bpfcanon_c"]
+    return [f"{run([TOP / 'capi' / 'sources', crate]).strip()}  sources of {crate}" for crate in crates]
 
 
 def record(logs):
@@ -47,10 +48,11 @@ def record(logs):
     return "\n".join([MEANING, *sources(), *sums(BUILT), f"kit {run(['rt', 'version']).strip()}", *verdicts, ""])
 
 
-def check_object():
-    """Raises if the program's object is made from other sources. The archives have the hash of theirs, which capi/build compares."""
-    if OBJECT.with_name("sources.sha256").read_text() != run([TOP / "capi" / "sources", "bpfcanon"]):
-        raise Refused(f"{OBJECT.relative_to(TOP)} is made from other sources; {MADE_BY[OBJECT]} makes it again")
+def check_objects():
+    """Raises if a program's object is made from other sources. The archives have the hash of theirs, which capi/build compares."""
+    for it in PROGRAMS:
+        if it.hash.read_text() != run([TOP / "capi" / "sources", it.crate]):
+            raise Refused(f"{it.object.relative_to(TOP)} is made from other sources; {MADE_BY[it.object]} makes it again")
 
 
 def check():

@@ -9,15 +9,37 @@ import subprocess
 from typing import NamedTuple
 
 TOP = pathlib.Path(__file__).resolve().parent.parent
-PROGRAM = TOP / "crates" / "bpfcanon" / "out" / "bpfcanon"
-# The program's object (packaging/program.py), and the archives of the proved calls (capi/archive).
-OBJECT = TOP / "crates" / "bpfcanon" / "out" / "release" / "bpfcanon.o"
+
+
+class Program(NamedTuple):
+    """A program of a release."""
+
+    crate: str
+
+    @property
+    def built(self):
+        """What rt links, over the C library of this machine. What a release has is linked from the object."""
+        return TOP / "crates" / self.crate / "out" / self.crate
+
+    @property
+    def object(self):
+        """What packaging/program.py makes."""
+        return self.built.parent / "release" / f"{self.crate}.o"
+
+    @property
+    def hash(self):
+        """The hash of the sources that the object is made from."""
+        return self.object.with_name("sources.sha256")
+
+
+PROGRAMS = [Program("bpfcanon"), Program("bpfcanon_object")]
+# The archives of the proved calls (capi/archive).
 ARCHIVE = TOP / "crates" / "bpfcanon_c" / "out" / "libbpfcanon_c.a"
 ARM_ARCHIVE = ARCHIVE.with_name("libbpfcanon_c.aarch64.a")
 # What make check passed (packaging/proved.py).
 RECORD = TOP / "out" / "PROVED.txt"
 MADE_BY = {
-    OBJECT: "make check or packaging/program.py",
+    **{it.object: "make check or packaging/program.py" for it in PROGRAMS},
     ARCHIVE: "make check or capi/archive",
     ARM_ARCHIVE: "make check or capi/archive aarch64",
     RECORD: "make check",

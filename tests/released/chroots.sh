@@ -64,9 +64,10 @@ everything() {
     chroot "$root" ldconfig -p
 }
 
-# The command and the library, wherever they are installed: anybody can run and read them, and only this version is found.
+# The commands and the library, wherever they are installed: anybody can run and read them, and only this version is found.
 is_installed() {
-    as_anybody "bpfcanon insn-canon --order big" <"$big" | is_canonical || return 1
+    local name
+    for name in "${commands[@]}"; do answers as 65534 "$name" || return 1; done
     as_user "flags=\$(pkg-config --cflags --libs bpfcanon); cc canon.c \$flags -o canon; cc -static canon.c \$flags -o still" || return 1
     as_user ./canon <"$big" | is_canonical && as_user ./still <"$big" | is_canonical || return 1
     [ "$(as_user "pkg-config --modversion bpfcanon")" = "$version" ] || return 1

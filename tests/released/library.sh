@@ -1,19 +1,22 @@
 # shellcheck shell=bash
-# tests/release: the command and the C library of the archives, where they were unpacked.
+# tests/release: the commands and the C library of the archives, where they were unpacked.
 
-program_runs() ( "$binary/bin/bpfcanon" insn-canon --order big <"$big" | is_canonical )
+program_runs() ( answers "$binary/bin/$1" )
 
-# rt builds another program of the same sources for the other tests.
-program_passes() ( cd "$top" && "$(tests/python_with pytest markdown_it)" -m pytest -q "tests/process/test_$1.py" --program="$binary/bin/bpfcanon" )
+# rt builds other programs of the same sources for the other tests. A static one loads nothing that refuses it memory.
+programs_pass() (
+    cd "$top" && "$(tests/python_with pytest markdown_it)" -m pytest -q "$@" -k "not refused_memory" \
+        --program="$binary/bin/bpfcanon" --object-program="$binary/bin/bpfcanon-object"
+)
 
-# An x86-64-v2 processor without later extensions runs the command and programs over the library. One that lacks a part of x86-64-v2 is
+# An x86-64-v2 processor without later extensions runs the commands and programs over the library. One that lacks a part of x86-64-v2 is
 # refused in a sentence, with nothing written.
 old_processor() (
-    programs=("$binary/bin/bpfcanon insn-canon --order big" "$work/shared" "$work/static")
-    for program in "${programs[@]}"; do
-        qemu-x86_64 -cpu Nehalem $program <"$big" | is_canonical || exit 1
+    for name in "${commands[@]}"; do answers qemu-x86_64 -cpu Nehalem "$binary/bin/$name" || exit 1; done
+    for program in "$work/shared" "$work/static"; do qemu-x86_64 -cpu Nehalem "$program" <"$big" | is_canonical || exit 1; done
+    for program in "${commands[@]/#/$binary/bin/}" "$work/shared" "$work/static"; do
         for lacking in qemu64,-sse3,-cx16,-svm Nehalem,-{popcnt,sse3,ssse3,cx16,sse4.1,sse4.2}; do
-            qemu-x86_64 -cpu $lacking $program <"$big" >"$work/written" 2>"$work/said"
+            qemu-x86_64 -cpu $lacking "$program" <"$big" >"$work/written" 2>"$work/said"
             [ $? -eq 3 ] && [ ! -s "$work/written" ] && grep -qx 'bpfcanon: needs an x86-64-v2 processor (SSE4.2 and POPCNT)' "$work/said" ||
                 { echo "$lacking"; exit 1; }
         done
@@ -28,16 +31,16 @@ needs_what_it_says() (
         tr '\n' ' ' <"$top/README.md" | grep -qE "glibc ([0-9.]+ or later, and )?$needed or later"
 )
 
-# The program that rt builds needs the glibc that docs/BUILDING.md names.
+# A program that rt builds needs the glibc that docs/BUILDING.md names, or an older one.
 rt_needs_what_it_says() (
-    needed=$(objdump -T "$1" | grep -o 'GLIBC_[0-9.]*' | cut -d _ -f 2 | sort -V | tail -n 1)
+    needed=$(objdump -T "$@" | grep -o 'GLIBC_[0-9.]*' | cut -d _ -f 2 | sort -V | tail -n 1)
     echo "needed $needed" && tr '\n' ' ' <"$top/docs/BUILDING.md" | grep -qF "glibc $needed or later"
 )
 
-# The program needs no C library. It and the shared library are linked so that nothing of the linker's stays writable.
+# The commands need no C library. They and the shared library are linked so that nothing of the linker's stays writable.
 is_hardened() (
-    ! readelf -d "$binary/bin/bpfcanon" | grep NEEDED || exit 1
-    for file in "$binary/bin/bpfcanon" "$binary/lib/libbpfcanon.so"; do
+    ! readelf -d "${commands[@]/#/$binary/bin/}" | grep NEEDED || exit 1
+    for file in "${commands[@]/#/$binary/bin/}" "$binary/lib/libbpfcanon.so"; do
         readelf -dW "$file" | grep -q 'FLAGS.*NOW' && readelf -lW "$file" | grep -q GNU_RELRO || exit 1
         ! readelf -lW "$file" | grep GNU_STACK | grep E || exit 1
     done
@@ -100,12 +103,14 @@ refuses_in_a_sentence() (
 )
 
 check_library() {
-    check program_runs
-    for test in streams vectors pipes; do check program_passes $test; done
+    local name test built
+    for name in "${commands[@]}"; do check program_runs "$name"; done
+    for test in process/test_{streams,vectors,pipes} test_object_program pages/test_object_pages; do check programs_pass "tests/$test.py"; done
     check refuses_in_a_sentence
     if there readelf; then check is_hardened; else skip "what is hardened" readelf; fi
     check needs_what_it_says "$binary" objdump
-    if [ -f "$top/crates/bpfcanon/out/bpfcanon" ]; then check rt_needs_what_it_says "$top/crates/bpfcanon/out/bpfcanon"; fi
+    mapfile -t built < <(cd "$top" && ls crates/bpfcanon/out/bpfcanon crates/bpfcanon_object/out/bpfcanon_object 2>"$work/found")
+    if [ ${#built[@]} -gt 0 ]; then check rt_needs_what_it_says "${built[@]/#/$top/}"; fi
     if ! there pkg-config; then
         skip "the C library" pkg-config
         return

@@ -4,8 +4,9 @@
 # What make check has recorded allows a release; otherwise the built files are used as they are.
 if [ -f "$top/out/PROVED.txt" ]; then how=(--partial); else how=(--partial --unverified); fi
 clone="$work/other place/tree"
-built=(crates/bpfcanon/out/bpfcanon crates/bpfcanon/out/release/{bpfcanon.o,sources.sha256})
-built+=(crates/bpfcanon_c/out/libbpfcanon_c{,.aarch64}.a)
+crates=(bpfcanon bpfcanon_object)
+built=(crates/bpfcanon_c/out/libbpfcanon_c{,.aarch64}.a)
+for crate in "${crates[@]}"; do built+=("crates/$crate/out/$crate" "crates/$crate/out/release/"{"$crate.o",sources.sha256}); done
 
 copy_built() {
     local file
@@ -39,29 +40,30 @@ refuses() {
 
 # All that is missing is said at once. A changed tree, another record and built files of other sources are refused.
 refuses_to_release() (
-    sources() { "$clone/capi/sources" $1 | sed "s/\$/  sources of $1/"; }
+    sources() { local it; for it in "$@"; do "$clone/capi/sources" "$it" | sed "s/\$/  sources of $it/"; done; }
     cd "$clone" || exit 1
     rm -rf crates/*/out out
     IFS=: read -ra folders <<<"$PATH"
     # Only cargo is hidden: its folder may have every other tool.
     mkdir "$work/tools" && for folder in "${folders[@]}"; do ln -s "$folder"/* "$work/tools"; done 2>"$work/found"
     rm -f "$work/tools/cargo"
-    PATH=$work/tools refuses "" cargo bpfcanon.o libbpfcanon_c.a libbpfcanon_c.aarch64.a out/PROVED.txt packaging/program.py || exit 1
-    refuses --partial bpfcanon.o libbpfcanon_c.a out/PROVED.txt || exit 1
+    PATH=$work/tools refuses "" cargo "${crates[@]/%/.o}" libbpfcanon_c.a libbpfcanon_c.aarch64.a out/PROVED.txt packaging/program.py || exit 1
+    refuses --partial "${crates[@]/%/.o}" libbpfcanon_c.a out/PROVED.txt || exit 1
     copy_built && mkdir -p out || exit 1
     echo "another record" >out/PROVED.txt
     refuses --partial "the sources are not those that make check passed" || exit 1
     mapfile -t files < <(ls "${built[@]}" 2>"$work/found" | grep -v 'sources\.sha256')
     for file in "${files[@]}"; do
-        { sources bpfcanon && sources bpfcanon_c && sha256sum "${files[@]}" | grep -v "  $file\$"; } >out/PROVED.txt
+        { sources "${crates[@]}" bpfcanon_c && sha256sum "${files[@]}" | grep -v "  $file\$"; } >out/PROVED.txt
         refuses --partial "$file is not the one that make check passed" || exit 1
     done
     echo >>README.md
     refuses "--partial --unverified" "README.md is not as it was committed" || exit 1
     git checkout --quiet README.md
-    echo "of other sources" >crates/bpfcanon/out/release/sources.sha256
-    refuses "--partial --unverified" "is made from other sources" || exit 1
-    copy_built
+    for crate in "${crates[@]}"; do
+        echo "of other sources" >"crates/$crate/out/release/sources.sha256"
+        refuses "--partial --unverified" "$crate.o is made from other sources" && copy_built || exit 1
+    done
     refuses --sign "unknown words" || exit 1
     mkdir "$work/full" && touch "$work/full/file"
     ! "$clone/release" --partial "$work/full" 2>"$work/said" && [ "$(ls "$work/full")" = file ] && grep -q 'not an empty folder' "$work/said"

@@ -17,9 +17,17 @@ from tests.command import SECONDS
 # Where each file is installed, below the prefix, and the file of this tree that it is a copy of.
 FILES = {
     "bin/bpfcanon": TOP / "crates" / "bpfcanon" / "out" / "bpfcanon",
+    "bin/bpfcanon-object": TOP / "crates" / "bpfcanon_object" / "out" / "bpfcanon_object",
     "share/man/man1/bpfcanon.1": TOP / "man" / "bpfcanon.1",
+    "share/man/man1/bpfcanon-object.1": TOP / "man" / "bpfcanon-object.1",
     "share/bash-completion/completions/bpfcanon": TOP / "completions" / "bash" / "bpfcanon",
+    "share/bash-completion/completions/bpfcanon-object": TOP / "completions" / "bash" / "bpfcanon-object",
     "share/zsh/site-functions/_bpfcanon": TOP / "completions" / "zsh" / "_bpfcanon",
+    "share/zsh/site-functions/_bpfcanon-object": TOP / "completions" / "zsh" / "_bpfcanon-object",
+}
+# What the archives for each processor but x86-64 lack.
+OF_THE_COMMANDS = [*FILES]
+FILES |= {
     "share/doc/bpfcanon/LICENSE": TOP / "packaging" / "NO-LICENSE",
     "share/doc/bpfcanon/recipes/count.c": TOP / "recipes" / "count.c",
 }
@@ -32,9 +40,6 @@ if (TOP / "LICENSE").exists():
     FILES["share/doc/bpfcanon/LICENSE"] = TOP / "LICENSE"
 LIBRARY = ["include/bpfcanon.h", "lib/libbpfcanon.a", "lib/pkgconfig/bpfcanon.pc", "share/man/man3/bpfcanon.3"]
 DOCUMENTS = ["share/doc/bpfcanon/PROVED.txt", "share/doc/bpfcanon/THIRD-PARTY"]
-# What the archives for each processor but x86-64 lack.
-OF_THE_COMMAND = ["bin/bpfcanon", "share/man/man1/bpfcanon.1", "share/bash-completion/completions/bpfcanon"]
-OF_THE_COMMAND += ["share/zsh/site-functions/_bpfcanon"]
 # What is at the top of the archives for a processor. All but the first two are links.
 TOP_FILES = {"README": 0o644, "install.sh": 0o755}
 TOP_LINKS = ["CHANGELOG.md", "LICENSE", "PROVED.txt", "SECURITY.md", "THIRD-PARTY"]
@@ -42,8 +47,8 @@ VECTORS = ["LICENSE", "README.md", "vectors.tsv", "flow_table.c", "flow_table.bi
 VECTORS += [f"{name}{end}" for name in ("hash_words", "packet_filter") for end in (".c", ".big.bin", ".little.bin")]
 VECTORS += ["objects", "pass.c", "objects/objects.tsv", *(f"objects/{name}.c" for name in ("calls", "core", "data", "externs", "maps"))]
 VECTORS += [f"objects/{row.file}" for row in object_vectors.rows()]
-# The crates of the kit whose code can be in the program or in the library: those that crates.txt names, and strsim, which clap uses.
-CRATES = ["arrayvec", "bumpalo", "byteorder", "clap", "indexmap", "itoa", "memchr", "sha2", "simdutf8", "strsim", "thiserror"]
+# The crates of the kit whose code can be in the commands or in the library: those that crates.txt names, and strsim, which clap uses.
+CRATES = ["arrayvec", "bumpalo", "byteorder", "clap", "hex", "indexmap", "itoa", "memchr", "sha2", "simdutf8", "strsim", "thiserror"]
 # What each package depends on, besides the versions of the C library, which dpkg-shlibdeps finds.
 DEPENDS = {
     "bpfcanon": "",
@@ -101,7 +106,7 @@ def check_licence(release, name, content):
     assert content == release.licence, f"the licence of {name}: it is {content[:80]!r}"
 
 
-@pytest.mark.parametrize("machine, left_out", [("x86_64", []), ("aarch64", OF_THE_COMMAND)], ids=["x86_64", "aarch64"])
+@pytest.mark.parametrize("machine, left_out", [("x86_64", []), ("aarch64", OF_THE_COMMANDS)], ids=["x86_64", "aarch64"])
 def test_processor(release, machine, left_out):
     """The archive for a processor: what is installed, with the list of it."""
     name = f"bpfcanon-{release.version}-{machine}-linux.tar.xz"
@@ -110,8 +115,7 @@ def test_processor(release, machine, left_out):
     members, read = release.members(name)
     shared, soname = f"libbpfcanon.so.{release.version}", f"libbpfcanon.so.{release.version.split('.')[0]}"
     places = [place for place in [*FILES, *DOCUMENTS, *LIBRARY, f"lib/{shared}"] if place not in left_out]
-    executable = {"bin/bpfcanon", f"lib/{shared}"}
-    modes = {place: 0o755 if place in executable else 0o644 for place in places}
+    modes = {place: 0o755 if place.startswith("bin/") or place == f"lib/{shared}" else 0o644 for place in places}
     links = {f"lib/{soname}": shared, "lib/libbpfcanon.so": soname}
     tops = {it: f"share/doc/bpfcanon/{it}" for it in TOP_LINKS}
     check_members(name, members, modes | TOP_FILES, links | tops)
@@ -180,7 +184,7 @@ def test_wheels(release):
 
 
 def test_debs(release):
-    """What the packages depend on, their modes, and the program, which is that of the archive."""
+    """What the packages depend on, their modes, and the programs, which are those of the archive."""
     if not release.has("*.deb"):
         pytest.skip("no packages")
     archive = release.members(f"bpfcanon-{release.version}-x86_64-linux.tar.xz")[1]
@@ -193,14 +197,14 @@ def test_debs(release):
         with tarfile.open(fileobj=io.BytesIO(subprocess.run(["dpkg-deb", "--fsys-tarfile", path], **how).stdout)) as tar:
             files = {it.name.removeprefix("./"): it for it in tar.getmembers() if it.isreg()}
             executable = sorted(place for place, it in files.items() if it.mode != 0o644)
-            right = [it for it in ("usr/bin/bpfcanon", "usr/bin/bpfcanon-review") if it in files]
+            right = [it for it in map("usr/bin/{}".format, ("bpfcanon", "bpfcanon-object", "bpfcanon-review")) if it in files]
             assert executable == right and all(files[it].mode == 0o755 for it in right), f"{package}: other modes: {executable}"
             text = tar.extractfile(files[f"usr/share/doc/{package}/copyright"]).read().decode()
             lines = ["" if line == " ." else line[1:] for line in text.partition("License: bpfcanon\n")[2].splitlines()]
             check_licence(release, path.name, "".join(f"{line}\n" for line in lines).encode())
-            if package == "bpfcanon":
-                is_same = tar.extractfile(files["usr/bin/bpfcanon"]).read() == archive("bin/bpfcanon")
-                assert is_same, f"{package}: its program isn't that of the archive"
+            for program in ("bin/bpfcanon", "bin/bpfcanon-object") if package == "bpfcanon" else ():
+                is_same = tar.extractfile(files[f"usr/{program}"]).read() == archive(program)
+                assert is_same, f"{package}: its {program} isn't that of the archive"
 
 
 def test_folder(release):
