@@ -34,11 +34,11 @@ canonical_objects = rule(
     attrs = {
         "srcs": attr.label_list(allow_files = [".o"], mandatory = True, doc = "The object files."),
         "program": attr.label(
-            default = "//:bpfcanon_object",
+            default = "//:bpfcanon-object",
             allow_single_file = True,
             executable = True,
             cfg = "exec",
-            doc = "bpfcanon_object, which is static: it needs nothing else on a remote machine.",
+            doc = "bpfcanon-object, which is static: it needs nothing else on a remote machine.",
         ),
     },
 )

@@ -46,7 +46,7 @@ class Place:
         self.folder = folder
         for name in "examples", "recipes", "bindings/rust":
             shutil.copytree(TOP / name, folder / name, ignore=shutil.ignore_patterns("target", "Cargo.lock", "bazel-*"))
-        for path, target in {"bin/bpfcanon_object": program, "go/src/bpfcanon": TOP / "bindings" / "go"}.items():
+        for path, target in {"bin/bpfcanon-object": program, "go/src/bpfcanon": TOP / "bindings" / "go"}.items():
             (folder / path).parent.mkdir(parents=True)
             (folder / path).symlink_to(target)
         (folder / "cargo").mkdir()
@@ -87,7 +87,7 @@ class Loader(Place):
 
     def sign(self, object: str, out: str) -> None:
         done = self.follow(
-            f"bpfcanon_object canon -o signed.o {object} && openssl pkeyutl -sign -rawin -inkey private.pem -in signed.o -out {out}"
+            f"bpfcanon-object canon -o signed.o {object} && openssl pkeyutl -sign -rawin -inkey private.pem -in signed.o -out {out}"
         )
         assert done.returncode == 0, done.stderr
 

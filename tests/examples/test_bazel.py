@@ -19,7 +19,7 @@ class Workspace(Place):
 
     def __init__(self, folder: Path, program: Path) -> None:
         super().__init__(folder, program)
-        shutil.copy(program, folder / HERE / "bpfcanon_object")
+        shutil.copy(program, folder / HERE / "bpfcanon-object")
 
     def found(self) -> dict[str, bool]:
         """Builds :image from nothing, and says of each output whether it was in the cache."""

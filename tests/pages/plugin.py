@@ -98,9 +98,9 @@ class Page(pytest.File):
                 (self.folder / path.name).symlink_to(path)
         prefix = self.config.getoption("prefix").resolve()
         (self.tools / "bin").mkdir(parents=True)
-        for option in "program", "object_program":
-            program = built(self.config.getoption(option), "build")
-            for place in self.folder / "crates" / program.name / "out" / program.name, self.tools / "bin" / program.name:
+        for option, name in ("program", "bpfcanon"), ("object_program", "bpfcanon-object"):
+            program, crate = built(self.config.getoption(option), "all"), name.replace("-", "_")
+            for place in self.folder / "crates" / crate / "out" / crate, self.tools / "bin" / name:
                 place.parent.mkdir(parents=True, exist_ok=True)
                 place.symlink_to(program)
         write(self.tools / "gitconfig", "[user]\nname = reader\nemail = reader@example.org\n")

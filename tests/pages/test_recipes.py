@@ -40,7 +40,7 @@ def test_workflow(object_program, tmp_path):
     text = re.search(rf"^<!-- file: {WORKFLOW} -->\n```yaml\n(.*?)^```$", page, re.MULTILINE | re.DOTALL)[1]
     workflow = json.loads(run(READ_YAML, tmp_path, input=text, check=True).stdout)
     (tmp_path / "third_party").mkdir()
-    (tmp_path / "third_party" / "bpfcanon_object").symlink_to(object_program)
+    (tmp_path / "third_party" / "bpfcanon-object").symlink_to(object_program)
     (tmp_path / "test_on_kernels").write_text('#!/bin/sh\necho "$*" >> calls\n')
     (tmp_path / "test_on_kernels").chmod(0o755)
     shutil.copy(TOP / "recipes" / "count.c", tmp_path)
