@@ -113,7 +113,7 @@ debs_in() (
     names="bpfcanon libbpfcanon0 libbpfcanon-dev python3-bpfcanon"
     as_root "dpkg -V $names" | { ! grep .; } && [ "$(as_root "dpkg -s $names" | grep -c "^Version: $version-1\$")" -eq 4 ] || exit 1
     python_is_canonical as 65534 python3 || exit 1
-    as_anybody "bpfcanon-review --version" | grep -x "bpfcanon-review $version, .* library $version" || exit 1
+    as_anybody "bpfcanon-review --version" | grep -x "bpfcanon-review $version, library $version" || exit 1
     as_anybody "python3 -c '$print_key'" <"$object" | is_key || exit 1
     as_anybody "python3 -c 'import importlib.metadata as it; print(it.version(\"bpfcanon\"), it.metadata(\"bpfcanon\")[\"Requires-Python\"])'" |
         grep -x "$version >=3.9" || exit 1
@@ -135,7 +135,7 @@ wheel_in() (
     as_user "$(lines_of "$out/README" '*.whl' | head -n 1)" && list_below "$venv" >"$work/before" || exit 1
     as_user "bpfcanon-venv/bin/pip install older/*.whl && bpfcanon-venv/bin/python -c 'import bpfcanon.old'" || exit 1
     as_user "$(lines_of "$out/README" '*.whl' | tail -n +2)" && is_older_gone "$venv" || exit 1
-    as_user "bpfcanon-venv/bin/bpfcanon-review --version" | grep -x "bpfcanon-review $version, .* library $version" || exit 1
+    as_user "bpfcanon-venv/bin/bpfcanon-review --version" | grep -x "bpfcanon-review $version, library $version" || exit 1
     as_user "bpfcanon-venv/bin/python -c '$print_key'" <"$object" | is_key || exit 1
     as_user "bpfcanon-venv/bin/pip uninstall --yes bpfcanon" && list_below "$venv" | diff "$work/before" -
 )

@@ -34,7 +34,7 @@ wheel_runs() (
     sh -euc "$(block_of sh "$top/bindings/python/README.md" | sed 's|^pip|bpfcanon-venv/bin/pip|')" && is_older_gone bpfcanon-venv || exit 1
     python_is_canonical bpfcanon-venv/bin/python || exit 1
     bpfcanon-venv/bin/python -c "$print_key" <"$object" | is_key && [ -f bpfcanon-venv/share/man/man1/bpfcanon-review.1 ] || exit 1
-    bpfcanon-venv/bin/bpfcanon-review --version | grep -x "bpfcanon-review $version, .* library $version" || exit 1
+    bpfcanon-venv/bin/bpfcanon-review --version | grep -x "bpfcanon-review $version, library $version" || exit 1
     bpfcanon-venv/bin/pip check && bpfcanon-venv/bin/pip uninstall --yes bpfcanon && list_below bpfcanon-venv | diff before -
 )
 
