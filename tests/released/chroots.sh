@@ -117,7 +117,8 @@ debs_in() (
     as_anybody "python3 -c '$print_key'" <"$object" | is_key || exit 1
     as_anybody "python3 -c 'import importlib.metadata as it; print(it.version(\"bpfcanon\"), it.metadata(\"bpfcanon\")[\"Requires-Python\"])'" |
         grep -x "$version >=3.9" || exit 1
-    as_root "dpkg --purge $names" && everything | diff "$work/before" -
+    # apt has also installed what python3-bpfcanon recommends.
+    as_root "dpkg --purge $names python3-pyelftools" && everything | diff "$work/before" -
 )
 
 # The C library from the sources, in the user's own folder.
