@@ -138,8 +138,9 @@ def verdict():
     return [word for word in found[0].split() if not word.startswith("functions=")] if found else []
 
 
-def functions_of_c():
-    return sorted(code for row in rows("Function of C") for code in CODE.findall(row[0]))
+def functions_of_c(*heads):
+    """The functions that the tables with these heads list."""
+    return sorted(code for head in heads or ["Function of C"] for row in rows(head) for code in CODE.findall(row[0]))
 
 
 def test_verdict():
@@ -153,12 +154,13 @@ def test_verdict():
 
 @pytest.mark.skipif(not RECORD.exists(), reason="there is no out/PROVED.txt: make record")
 def test_record():
-    """A verdict of the record has the words of the page, and rests on the functions of C that the page lists."""
+    """A verdict of the record has the words of the page, and the verdicts rest on the functions of C that the page lists."""
     lines = RECORD.read_text().splitlines()
     verdicts = [line.split() for line in lines if line.startswith("logic=proved ")]
     reached = sorted({line.split()[0] for line in lines if line.endswith(" reached")})
     assert any(set(verdict()) <= set(it) for it in verdicts), (" ".join(verdict()), "no verdict has these words")
-    assert reached == functions_of_c(), f"the functions of C: the verdicts rest on {reached}"
+    assert reached == functions_of_c("Function of C", "Function of C for files"), f"the functions of C: the verdicts rest on {reached}"
+    assert f"axioms={len(reached)}" in TEXT, f"the functions of C: the greatest verdict has {len(reached)}"
 
 
 @pytest.mark.needs("cc")
