@@ -171,7 +171,7 @@ def test_types_round_a_circle(review: Review) -> None:
 def test_source_lines(order: str, flows: Any, review: Review) -> None:
     """A changed constant of the program has its source line, on both sides."""
     found = review.changes(flows, review.accepted(compiled("changed", order)))
-    lines = [it for it in found["changed function xdp count_flows"] if it[0] in "-+"]
+    lines = [it for it in found["changed function xdp count_flows"] if it[0] in "-+" and "digest=" not in it]
     assert [re.sub(r"\s+", " ", it) for it in lines] == ["- mov32 r0, 2 ; ./flows.c:48: total++;", "+ mov32 r0, 1 ; ./flows.c:48: total++;"]
     assert "changed data .rodata limit" in found
     assert review.changes(flows, flows) == {}
@@ -187,6 +187,13 @@ def run(prefix: Path) -> Callable[..., subprocess.CompletedProcess[bytes]]:
 
 Run = Callable[..., "subprocess.CompletedProcess[bytes]"]
 FLOWS, CHANGED = (COMPILED / f"{name}.little.elf" for name in ("flows", "changed"))
+
+
+def test_digests(run: Run) -> None:
+    """The digests of a changed function are those that `list` has of it in both files."""
+    listed = [it.partition(b" ")[0] for it in run("list", FLOWS, CHANGED).stdout.splitlines() if it.endswith(b": xdp count_flows")]
+    assert len(set(listed)) == 2
+    assert re.findall(rb"^  [-+]\tdigest=(.*)$", run("diff", FLOWS, CHANGED).stdout, re.MULTILINE) == listed
 
 
 def test_statuses(run: Run, tmp_path: Path) -> None:

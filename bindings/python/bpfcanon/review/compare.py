@@ -5,7 +5,7 @@ from __future__ import annotations
 import difflib
 import os
 from dataclasses import dataclass
-from typing import Iterator, Sequence
+from typing import Iterator, Optional, Sequence
 
 from .accepted import Accepted
 from .parts import Line, Part, parts
@@ -47,12 +47,20 @@ def compare(old: Accepted, new: Accepted) -> Iterator[Change]:
         return
     one, two = Side(old), Side(new)
     for title in dict.fromkeys([*one.parts, *two.parts]):
-        if one.parts.get(title) != two.parts.get(title):
-            word = "added" if title not in one.parts else "removed" if title not in two.parts else "changed"
-            yield Change(f"{word} {title}", tuple(unified(one, two, one.lines(title), two.lines(title))))
+        before, after = one.parts.get(title), two.parts.get(title)
+        if before != after:
+            word = "added" if before is None else "removed" if after is None else "changed"
+            lines = unified(one, two, one.lines(title), two.lines(title))
+            yield Change(f"{word} {title}", (*digest("-", before), *digest("+", after), *lines))
     titles = [tuple(Line(it) for it in side.parts if it in one.parts and it in two.parts) for side in (one, two)]
     if titles[0] != titles[1]:
         yield Change("changed sequence", tuple(unified(one, two, *titles)))
+
+
+def digest(sign: str, it: Optional[Part]) -> Iterator[str]:
+    """Yield the digest of a function, as `list` has it."""
+    if it and it.kind == "function":
+        yield f"{sign}\tdigest={it.digest}"
 
 
 def unified(one: Side, two: Side, first: Sequence[Line], second: Sequence[Line]) -> Iterator[str]:
