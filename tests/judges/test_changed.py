@@ -22,6 +22,7 @@ from tests.objects.changes import Base, Changed, changed
 
 COUNT, SEED = int(os.environ.get("CHANGED_OBJECTS", "2000")), os.environ.get("CHANGED_SEED", "1")
 FEWEST = COUNT // 3  # accepted objects: fewer would test little
+TRIES = 20
 HEADER = {
     "EI_MAG": 4, "EI_CLASS": 1, "EI_DATA": 1, "EI_VERSION": 1, "EI_OSABI": 1, "EI_ABIVERSION": 1, "EI_PAD": 7, "e_type": 2,
     "e_machine": 2, "e_version": 4, "e_entry": 8, "e_phoff": 8, "e_shoff": 8, "e_flags": 4, "e_ehsize": 2, "e_phentsize": 2, "e_phnum": 2,
@@ -66,6 +67,11 @@ def accepted(bases: list[Base], canon: Canon) -> Iterator[tuple[Changed, bytes]]
             yield one, canon(one.content)
 
 
+def has_view(loader: Loader, content: bytes, view: bytes, known: bytes) -> bool:
+    """Whether a view of an object is the known one. cilium/ebpf reads either of two sections with one name, at random, so it is asked again."""
+    return digest(view) == known or is_accepted(view) and any(digest(loader.view(content)) == known for _ in range(TRIES))
+
+
 def test_equal_bytes_mean_equal_views(bases: list[Base], loader: Loader, canon: Canon, tally: Tally) -> None:
     """A view of a canonical file is the one of each object that has it. What cilium/ebpf refuses, it may take then."""
     views: dict[bytes, bytes] = {}
@@ -74,7 +80,7 @@ def test_equal_bytes_mean_equal_views(bases: list[Base], loader: Loader, canon: 
         view, key = loader.view(one.content), digest(canonical)
         known = views.get(key) or views.setdefault(key, digest(loader.view(canonical)))
         is_repaired = loader.name == "cilium" and not is_accepted(view)
-        word = "the same" if digest(view) == known else "refused, and then accepted" if is_repaired else "other"
+        word = "the same" if has_view(loader, one.content, view, known) else "refused, and then accepted" if is_repaired else "other"
         counts[f"{word}, {'accepted' if is_accepted(view) else 'refused'}"] += 1
         wrong += [str(one)] if word == "other" else []
     counts["canonical files"] = len(views)
