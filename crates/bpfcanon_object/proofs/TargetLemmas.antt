@@ -44,9 +44,6 @@ module _ (order : Order) (target : GroupSet) (bytes : List ℕ) (at : ℕ) (h : 
   whole : bytes ≡ file_of order h.before ++ file_of order h.after
   whole = h.file.1 ∙ flat_map-append (spelling order) h.before h.after
 
-  pub bound : at ≤ length bytes
-  bound = omega (arith, h.place, ap length whole, length-append (file_of order h.before) (file_of order h.after))
-
   rest_is : take (length bytes - at) (drop at bytes) ≡ file_of order h.after
   rest_is =
       take_all (length bytes - at) (drop at bytes) (omega (arith, length-drop at bytes))
