@@ -65,7 +65,8 @@ impl<'a, A: Allocator> CheckedFile<'a, A> {
     /// fields, each by offset and then by cause. `Memory` if memory can't be allocated.
     #[tactic(auto, using(crate::proofs::TableLemmas::TableSteps::phases))]
     pub fn check(alloc: A, bytes: &'a [u8]) -> Result<CheckedFile<'a, A>, BtfError>
-        ensures { MatchResult result (λ f. HoldsSections bytes.now f) (λ e. tables.Fails bytes.now e) }
+        ensures { MatchResult result
+            (λ f. HoldsSections bytes.now f) (λ e. tables.Fails bytes.now e) }
     {
         let header = read_header(bytes)?;
         let order = header.order;
