@@ -1,7 +1,7 @@
 """Compares docs/causes.tsv with the causes that the crates declare. tests/sources/test_made.py has what tools/from_causes makes of it.
 
-The names and sentences of the crates are proved against their specs/, and both are written by hand: here they are read out of the
-sources. Each cause has a vector, and its name is in the manual page of the command.
+The names and sentences of the crates are proved to be those of their specs/, which are read here. Each cause has a vector, and its name
+is in the manual page of the command.
 """
 
 import re
@@ -39,15 +39,6 @@ def in_enum(text, enum):
     return [(name, int(number)) for name, number in re.findall(r"^    (\w+) = (\d+),$", body, re.MULTILINE)]
 
 
-def in_arms(text, enum, call):
-    """The string of each variant in the arms of a call, which may be a list of variants that are their own names."""
-    body = re.search(rf"^    pub fn {call}\(.*?^    \}}", text, re.MULTILINE | re.DOTALL)[0]
-    listed = re.search(r"names! \{\s*self;([\w\s]*)\}", body)
-    if listed:
-        return [(name, name) for name in listed[1].split()]
-    return re.findall(rf'{enum}::(\w+) =>\s*"([^"]*)"', body)
-
-
 def in_definition(text, word):
     """The string of each variant in a definition."""
     return re.findall(rf'^\w*{word} \w+\.(\w+) = codes "([^"]*)"', text, re.MULTILINE)
@@ -60,8 +51,6 @@ def test_sources(kind):
     names = [(name, name) for _, name, _ in causes]
     sentences = [(name, sentence) for _, name, sentence in causes]
     assert in_enum(source(file), enum) == [(name, number) for number, name, _ in causes]
-    assert in_arms(source(file), enum, "name") == names
-    assert in_arms(source(file), enum, "describe") == sentences
     assert in_definition(source(definitions), "cause_name") == names
     assert in_definition(source(definitions), "cause_sentence") == sentences
     word, file = NUMBERS[kind]

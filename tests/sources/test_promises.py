@@ -1,15 +1,9 @@
-"""Compares docs/CONTRACTS.md and docs/PROMISES.md with the sources.
-
-tools/from_specs makes the index of CONTRACTS from the sources, and marks the files of definitions that only private contracts cite. Each
-call and law that PROMISES names is in the sources, and its contract has each clause that PROMISES names for it.
-"""
+"""Compares docs/PROMISES.md with the sources: each call and law that it names is there, with each clause that it names for it."""
 
 import re
 
-import pytest
-
 from tests import TOP
-from tests.sources.tables import cells, loaded
+from tests.sources.tables import cells
 
 CODE = re.compile(r"`([^`]+)`")
 # The clauses of the calls and laws before a parenthesis, or of the one before "its".
@@ -18,29 +12,9 @@ CLAUSE = re.compile(r"^ *ensures\*? (\w+)(?: \{|$)", re.MULTILINE)
 # The head of a block of calls, and a call with its contract, which ends before the body.
 BLOCK = re.compile(r"^(?:pub )?(?:impl|trait)\b.*", re.MULTILINE)
 CALL = re.compile(r"^( *)(?:pub |extern \"C\" )*fn (\w+).*?(?:^\1[{}]|;$)", re.MULTILINE | re.DOTALL)
-# What a comment of a definition says of private contracts, other than the line of tools/from_specs.
-OTHERWISE = re.compile(r"^ *--.*\b(?:private|public) (?:contracts?|functions?|clauses?)\b.*$", re.MULTILINE | re.IGNORECASE)
 DECLARED = re.compile(r"^ *(?:abbrev |unfoldable )?(?:pub )?(?:record |data )?(\w+)(?: [^:\n]*)? :", re.MULTILINE)
-
-
-FROM_SPECS = loaded("from_specs")
-
-
-INDEX = [cells(line) for line in (TOP / "docs" / "CONTRACTS.md").read_text().split("\n") if line.startswith("| `")]
 PROMISES = [cells(line)[1] for line in (TOP / "docs" / "PROMISES.md").read_text().split("\n") if line.startswith("| ")]
 FILES = sorted(TOP.glob("crates/*/specs/**/*.antt"))
-
-
-def test_index():
-    """Each definition that public contracts cite has a meaning, and a function that cites it."""
-    assert len(INDEX) > 140
-    assert [name for name, meaning, _, cited_by in INDEX if len(meaning) <= 10 or not cited_by] == []
-
-
-def test_marks():
-    """One line says that only private contracts cite a file, in one wording."""
-    assert any(file.read_text().startswith(FROM_SPECS.PRIVATE) for file in FILES)
-    assert {str(file): said for file in FILES if (said := OTHERWISE.findall(file.read_text().removeprefix(FROM_SPECS.PRIVATE)))} == {}
 
 
 def clauses_by_function():
@@ -73,23 +47,6 @@ def test_clauses():
     clauses, named = clauses_by_function(), [cell for cell in PROMISES if CLAUSES.search(cell)]
     assert named
     assert {cell: wrong for cell in named if (wrong := list(clauses_that_lack(cell, clauses)))} == {}
-
-
-# Cells, and what is wrong with each.
-PLANTED = [
-    ("`run_btf` (clause `moves`)", [("run_btf", "moves")]),
-    ("`push16`, `run_btf` (clauses `err`, `ok`)", [("push16", "err")]),
-    ("`run_btf` (clause `err`), `push16` (clause `err`)", [("push16", "err")]),
-    ("law `fault_stays`; `InsnFeed::feed` (clauses `answer`, `kind`)", [("InsnFeed::feed", "kind")]),
-    ("`TypeTable::sections`; its clause `keeps` for `Btf`", [("TypeTable::sections", "keeps")]),
-    ("`nothing` (clause `err`)", [("nothing", "err")]),
-]
-KNOWN = {"run_btf": {"ok", "err"}, "push16": {"ok"}, "InsnFeed::feed": {"answer"}, "TypeTable::sections": {"kept"}}
-
-
-@pytest.mark.parametrize("cell, wrong", PLANTED)
-def test_planted_clause(cell, wrong):
-    assert list(clauses_that_lack(cell, KNOWN)) == wrong
 
 
 def test_promises():
