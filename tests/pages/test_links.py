@@ -19,7 +19,7 @@ NAME = re.compile(r"`([A-Za-z_][\w:]*)`")
 ON_SOURCES = ["CHANGING", "CONTRACTS", "DECISIONS", "LIBRARY", "PROMISES", "STABILITY", "TRUST"]
 SOURCES = ["crates/**/*.rt", "crates/**/*.antt", "tests/**/*", "tools/*", "capi/*"]
 SOURCES += ["bindings/**/*.go", "bindings/**/*.py", "bindings/**/*.rs"]
-NO_NAMES = {"RT_JOBS", "chdir", "proved_", "bpfcanon_proved_", "MayGoto", "bpf_object__open_file", "btf__parse"}
+NO_NAMES = {"RT_JOBS", "chdir", "getcwd", "proved_", "bpfcanon_proved_", "MayGoto", "bpf_object__open_file", "btf__parse"}
 # How functions of C begin that only the kit names.
 OF_KIT = ("libc::", "os::c::", "__")
 STANDS_FOR = re.compile(r"(?:^|/)(?:NAME|MODULE|FUNCTION)\b")
@@ -78,7 +78,7 @@ def test_readme(page):
 def test_names():
     """Each name in code on the pages about the sources is in the sources, or is that of a file."""
     known = {name for path in files_of(*SOURCES) for name in re.findall(r"\w+", path.read_text(errors="replace"))}
-    known |= {path.stem for path in TOP.glob("crates/*/must-fail/*.edit")}
+    known |= {path.stem for path in [*TOP.glob("crates/*/must-fail/*.edit"), *TOP.iterdir()]}
     for page in ON_SOURCES:
         text = BLOCK.sub("", (TOP / "docs" / f"{page}.md").read_text())
         for name in sorted(it for it in set(NAME.findall(text)) - NO_NAMES if not it.startswith(OF_KIT)):
