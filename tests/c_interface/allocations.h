@@ -1,7 +1,4 @@
-/*
- * Counts the blocks of a test, and refuses some. A test that includes this is linked with
- * -Wl,--wrap=malloc,--wrap=realloc,--wrap=free, and has one thread.
- */
+/* Counts the blocks of a test and refuses some: it is linked with -Wl,--wrap=malloc,--wrap=realloc,--wrap=free, and has one thread. */
 #ifndef ALLOCATIONS_H
 #define ALLOCATIONS_H
 
@@ -26,7 +23,7 @@ static struct {
 	size_t size;
 } sizes[64];
 
-/* The index of a block, or of none; a test with too many blocks ends here. */
+/* The place of a block, or of none; a test with too many blocks ends here. */
 static size_t index_of(const void *block)
 {
 	size_t at = 0;
@@ -35,12 +32,6 @@ static size_t index_of(const void *block)
 		if (++at == sizeof sizes / sizeof *sizes)
 			__builtin_trap();
 	return at;
-}
-
-/* The size that a live block was asked for with. */
-static inline size_t size_of(const void *block)
-{
-	return sizes[index_of(block)].size;
 }
 
 static void keep(size_t at, void *block, size_t size)

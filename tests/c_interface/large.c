@@ -1,7 +1,4 @@
-/*
- * Makes each call on several megabytes, and at the limits of the command: instructions and listings of 67,108,864 bytes, BTF of
- * 50,335,744, object files of 67,108,864. usage: large [several], which leaves the limits out
- */
+/* Makes each call at the limits of the command: instructions and object files of 67,108,864 bytes, BTF of 50,335,744. */
 #include "checks.h"
 #include "object_file.h"
 
@@ -29,38 +26,18 @@ static void repeat_insn(const char *little, const char *big, const char *line, s
 	CHECK(is(bpfcanon_insn_canon_new(1, 0, out, len, &block), written(len)) && !memcmp(block, bytes, len));
 	bpfcanon_free(block);
 	CHECK(is(bpfcanon_insn_same(0, bytes, len, 1, out, len), ended(BPFCANON_DONE)));
-	CHECK(is(bpfcanon_insn_same(0, bytes, len, 1, out, len - 8), ended(BPFCANON_DIFFERENT)));
-	CHECK(is(bpfcanon_insn_same(0, bytes, len, 1, out, len - 1), second_fault(1, len - 8)));
 	CHECK(is(bpfcanon_insn_groups(0, bytes, len), with_groups(groups)));
-	CHECK(is(bpfcanon_insn_front(1, 1, out, len, NULL, 0), needs(len)));
-	memset(out, 0, len);
 	CHECK(is(bpfcanon_insn_front(0, 1, bytes, len, out, len), front_of(len)) && is_times(out, times, big, 8));
 
 	CHECK(is(bpfcanon_insn_show_new(0, bytes, len, &shown), written(text_len)) && !memcmp(shown, text, text_len));
-	CHECK(!shown[text_len]);
-	memset(shown, 0, text_len);
-	CHECK(is(bpfcanon_insn_show(0, bytes, len, shown, text_len), written(text_len)) && !memcmp(shown, text, text_len));
 	bpfcanon_free(shown);
 	CHECK(is(bpfcanon_insn_read_new(1, text, text_len, &block), written(len)) && is_times(block, times, big, 8));
 	bpfcanon_free(block);
-	CHECK(is(bpfcanon_insn_read(0, text, text_len, out, len), written(len)) && !memcmp(out, bytes, len));
 	bytes[len - 8] = 0;
 	CHECK(is(bpfcanon_insn_show_new(0, bytes, len, &shown), fault(2, len - 8)) && !shown);
 	free(bytes);
 	free(text);
 	free(out);
-}
-
-/* A listing of the limit's length. */
-static void read_spaced_lines(const char *exit_insn)
-{
-	char *text = (char *)repeat("exit   \n", 8, INSN_LIMIT / 8);
-	uint8_t *block;
-
-	CHECK(is(bpfcanon_insn_read_new(0, text, INSN_LIMIT, &block), written(INSN_LIMIT)));
-	CHECK(is_times(block, INSN_LIMIT / 8, exit_insn, 8));
-	bpfcanon_free(block);
-	free(text);
 }
 
 /* INTs in little-endian BTF, all with the name at an offset of the strings. */
@@ -92,7 +69,6 @@ static void repeat_int(size_t header_len, size_t types, size_t strings_len)
 	bytes = ints(header_len, types, strings_len - 3, strings, strings_len);
 	right = ints(24, types, 1, (const uint8_t *)"\0aa", 4);
 	CHECK(is(bpfcanon_btf_check(bytes, len), with_types(types)));
-	CHECK(is(bpfcanon_btf_check(bytes, len - 1), fault(10, len - 1)));
 	CHECK(is(bpfcanon_btf_canon(0, bytes, len, out, len), written(right_len)) && !memcmp(out, right, right_len));
 	CHECK(is(bpfcanon_btf_canon_new(1, bytes, len, &block), written(right_len)));
 	CHECK(is(bpfcanon_btf_same(bytes, len, block, right_len), ended(BPFCANON_DONE)));
@@ -112,8 +88,6 @@ static void repeat_int(size_t header_len, size_t types, size_t strings_len)
 		at += wanted_len;
 	}
 	CHECK(at == shown + answer.written && at != shown && !*at);
-	CHECK(is(bpfcanon_btf_show(bytes, len, shown, answer.written - 1), needs(answer.written)));
-	CHECK(is(bpfcanon_btf_show(bytes, len, shown, answer.written), answer));
 	bpfcanon_free(shown);
 	free(strings);
 	free(bytes);
@@ -165,21 +139,13 @@ static void limit_objects(void)
 	free(out);
 }
 
-int main(int argc, char **argv)
+int main(void)
 {
-	const int is_at_limits = argc != 2 || strcmp(argv[1], "several");
-	static const char exit_insn[] = "\x95\0\0\0\0\0\0", mov[] = "\xbf\x21\0\0\0\0\0", mov_big[] = "\xbf\x12\0\0\0\0\0";
-	static const char jump[] = "\x66\x0a\0\x80\0\0\0\x80", jump_big[] = "\x66\xa0\x80\0\x80\0\0\0";
+	static const char exit_insn[] = "\x95\0\0\0\0\0\0";
 
-	repeat_insn(mov, mov_big, "mov r1, r2\n", 1000003, BPFCANON_BASE32 | BPFCANON_BASE64);
-	repeat_insn(jump, jump_big, "jsgt32 r10, -2147483648, -32768\n", 300007, BPFCANON_BASE32);
-	repeat_int(24, 200003, 1000003);
-	if (is_at_limits) {
-		repeat_insn(exit_insn, exit_insn, "exit\n", INSN_LIMIT / 8, BPFCANON_BASE32);
-		read_spaced_lines(exit_insn);
-		repeat_int(BTF_HEADER, BTF_TYPES, BTF_STRINGS);
-		limit_btf();
-		limit_objects();
-	}
-	return end(is_at_limits ? "megabytes and the limits" : "megabytes");
+	repeat_insn(exit_insn, exit_insn, "exit\n", INSN_LIMIT / 8, BPFCANON_BASE32);
+	repeat_int(BTF_HEADER, BTF_TYPES, BTF_STRINGS);
+	limit_btf();
+	limit_objects();
+	return end("the limits");
 }

@@ -49,6 +49,10 @@ static void accepted(struct bytes file, const char *digits)
 	CHECK(is(bpfcanon_object_key(canonical, made.written, key, sizeof key), written(sizeof key)) && is_key(key, digits));
 	CHECK(is(bpfcanon_object_same(file.at, file.len, canonical, made.written), ended(BPFCANON_DONE)));
 	CHECK(is(bpfcanon_object_check(file.at, file.len), ended(BPFCANON_DONE)));
+	CHECK(is(bpfcanon_object_canon(file.at, file.len, again, made.written - 1), needs(made.written)));
+	CHECK(is(bpfcanon_object_key(file.at, file.len, key, sizeof key - 1), needs(sizeof key)));
+	memcpy(canonical + 48, "\1\2\3\4", 4); /* the flags of the file */
+	CHECK(is(bpfcanon_object_same(file.at, file.len, canonical, made.written), ended(BPFCANON_DIFFERENT)));
 	free(again);
 	bpfcanon_free(canonical);
 }
