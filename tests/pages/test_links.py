@@ -1,5 +1,7 @@
 """Checks what the pages refer to: each link leads to a file and a heading, each file and name in code exists, and README names each page."""
 
+import os
+import pathlib
 import re
 
 import pytest
@@ -83,3 +85,25 @@ def test_names():
         text = BLOCK.sub("", (TOP / "docs" / f"{page}.md").read_text())
         for name in sorted(it for it in set(NAME.findall(text)) - NO_NAMES if not it.startswith(OF_KIT)):
             assert all(part in known for part in name.split("::")), f"`{name}`: no source contains it"
+
+
+# ---- an installation, which has some of the pages
+
+MESON = (TOP / "meson.build").read_text()
+INSTALLED = {*re.findall(r"'((?:recipes|testdata)/\w+\.c|[A-Z]+(?:\.md)?)'", MESON)}
+INSTALLED |= {f"docs/{page}.md" for page in re.findall(r"'([A-Z]+)'", re.search(r"^foreach page : \[(.*)\]$", MESON, re.MULTILINE)[1])}
+
+
+@pytest.mark.parametrize("place", sorted(it for it in INSTALLED if it.endswith(".md")))
+def test_installed(place):
+    """The links of an installed page lead to installed files."""
+    targets = (it.partition("#")[0] for it in LINK.findall(BLOCK.sub("", (TOP / place).read_text())) if "://" not in it)
+    paths = {os.path.normpath(pathlib.PurePath(place).parent / it) for it in targets if it}
+    assert paths - INSTALLED == set()
+
+
+@pytest.mark.parametrize("page", sorted(TOP.glob("man/*.[13]")), ids=lambda it: it.name)
+def test_manual(page):
+    """So do the documents that a manual page names, by their place below the prefix."""
+    names = re.findall(r"share/doc/bpfcanon/([\w./]*\w)", page.read_text().replace(r"\-", "-"))
+    assert names and set(names) - INSTALLED - {"docs"} == set()

@@ -1,4 +1,4 @@
-"""Compares docs/TRUST.md with the sources: its contracts, the words that it explains and the files to read.
+"""Compares docs/TRUST.md with the sources: its contracts, the files to read and the verdict.
 
 out/PROVED.txt is what `make record` notes of the verdicts of the prover: the verdict of the page and the functions of C that it rests on
 are compared with it, if it is there.
@@ -23,15 +23,6 @@ DEFINITIONS = ["IsCanonicalBtf", "CanonicalBtfTellsApart", "CanonicalBtfIsShorte
 BLOCK = re.compile(r"^```(\w+)\n(.*?)^```$", re.MULTILINE | re.DOTALL)
 LINK = re.compile(r"\]\((\.\./crates/[^)]*)\)")
 CODE = re.compile(r"`([^`]+)`")
-WORD = re.compile(r"[^\W\d_]\w*|[^\w\s(){}.,:]+")
-# What binds names: a function, a type of some names, a field, a parameter of Rust, a clause.
-BOUND = re.compile(r"λ (\w+)\.|\(((?:\w+ )+):|pub (\w+) :|(\w+): [&A]|ensures (\w+) \{")
-# What a file imports from std, and the words of it that mean what they do elsewhere.
-STD_IMPORT = re.compile(r"^(?:pub )?use Rattle\.std\.[^{]*\{([^}]*)\}", re.MULTILINE)
-STD_COUNT = re.compile(r"import (\d+) words of Rattle's standard library")
-PLAIN = set(
-    "ℕ zero suc + * < min Bool true false not && || if then else Ordering Option Some None Result Ok Err List map filter reverse".split()
-)
 # A variable and a field of the definitions that have the name of another one.
 NO_CITATIONS = {("btf_types", "is_set"), ("btf_types", "items_of")}
 DEFINED = FROM_SPECS.definitions()
@@ -91,45 +82,12 @@ def rows(head):
     return [cells(line) for line in found[1].splitlines()] if found else []
 
 
-def test_words():
-    """Each word of the blocks that isn't bound in them, or Rust, is explained or a definition to read."""
-    shown = [text for language in ("rattle", "antt") for _, text in blocks(language)]
-    bound = {word for text in shown for names in BOUND.findall(text) for name in names for word in name.split()}
-    clauses = [text.partition("ensures")[2] if text.startswith("pub fn") else text for text in shown]
-    explained = {word for row in rows("Word") for code in CODE.findall(row[0]) for word in WORD.findall(code)}
-    known = explained | bound | {name for _, name in of_three()}
-    assert len(explained) > 20, f"the table of words: it explains {sorted(explained)}"
-    for word in sorted({word for text in clauses for word in WORD.findall(text)}):
-        assert word in known, f"`{word}`: the page doesn't explain it"
-
-
 def test_files():
     """The table of what to read has each file with a definition that the three contracts rest on, and no other."""
     right = {file_of(key) for key in of_three()}
     shown = [(PAGE.parent / link).resolve() for row in rows("They say") for link in LINK.findall(row[1])]
     for path in sorted(right | set(shown)):
         assert shown.count(path) == 1 and path in right, f"{str(path.relative_to(TOP))}: it is missing, or isn't one of them"
-
-
-def std_words():
-    """The words of std that the files to read import, without the modules that they are in."""
-    files = [(PAGE.parent / link).resolve() for row in rows("They say") for link in LINK.findall(row[1])]
-    imported = [found for path in files for found in STD_IMPORT.findall(path.read_text())]
-    return {it.strip().rpartition(".")[2] for names in imported for it in names.split(",")}
-
-
-def test_std():
-    """Each word of std that these files import is explained, or means what it does elsewhere, and the table has no other."""
-    words, shown = std_words(), rows("Word of std")
-    explained = {word for row in rows("Word") + shown for code in CODE.findall(row[0]) for word in WORD.findall(code)}
-    found = STD_COUNT.search(TEXT)
-    assert found and int(found[1]) == len(words), f"how many: there are {len(words)}"
-    for word in sorted(words):
-        parts = {part for part in word.split("◌") if part}
-        assert parts <= explained | PLAIN, f"{word}: the page doesn't explain it"
-    for row in shown:
-        names = {name for name in re.findall(r"\w{4,}", row[0])}
-        assert names <= words, f"{row[0]}: {sorted(names - words)} isn't imported"
 
 
 def verdict():

@@ -1,6 +1,6 @@
-"""Compares what the pages say of versions with what has them, and the table of what a version may change with the rule above it.
+"""Compares what the pages say of versions with what has them.
 
-The soname and the symbols of the built library are compared with the header by tests/c_interface/test_installed.py, and here with the pages.
+The soname and the symbols of the built library are compared with the header by tests/c_interface/test_installed_library.py.
 """
 
 import re
@@ -8,12 +8,9 @@ import re
 from tests import TOP
 from tests.pages.test_links import PAGES
 
-from tests.reference.formats_page import cells
-
 HEADER, EXPORTS = ((TOP / "capi" / name).read_text() for name in ("bpfcanon.h", "exports.map"))
 VERSION = re.search(r'^#define BPFCANON_VERSION "(.*)"$', HEADER, re.MULTILINE)[1]
 MAJOR = VERSION.partition(".")[0]
-STABILITY = TOP / "docs" / "STABILITY.md"
 READ = [*PAGES, *sorted([*TOP.glob("man/*.[135]"), *TOP.glob("packaging/README.*")])]
 
 
@@ -45,18 +42,9 @@ def test_library():
     expect_all("the version of files", files, VERSION, ["README.md", "bindings/go/README.md", "bindings/rust/README.md"])
 
 
-def test_number():
-    """The example of the version as one number is what the macro makes of it."""
-    factors = re.search(r"\(BPFCANON_VERSION_MAJOR \* (\d+) \+ BPFCANON_VERSION_MINOR \* (\d+) \+ BPFCANON_VERSION_PATCH\)", HEADER)
-    right = int(factors[1]) + 2 * int(factors[2]) + 3 if factors else 0
-    for name in "capi/bpfcanon.h", "man/bpfcanon.3":
-        found = re.findall(r"([\d,]+) is 1\.2\.3", joined(TOP / name))
-        assert [int(it.replace(",", "")) for it in found] == [right], f"{name}: it says {found}, and right is {right}"
-
-
 def test_forms():
     """The number of the canonical form, on STABILITY and where it is defined."""
-    page = joined(STABILITY)
+    page = joined(TOP / "docs" / "STABILITY.md")
     formats = re.findall(r"\*\*The canonical form is form (\d+)\.\*\*", joined(TOP / "docs" / "FORMATS.md"))
     said = re.findall(r"\| canonical form \| form (\d+) in all of (\d+)\.x", page)
     assert said == [(it, MAJOR) for it in formats] and said, f"it is {said}, and right is {formats} in {MAJOR}.x"
@@ -79,32 +67,3 @@ def test_languages():
         if language == "Rust":
             needed = re.findall(r"rustc (\d[\d.]*\d) or later", joined(TOP / "docs" / "BUILDING.md"))
             assert needed == [right], f"docs/BUILDING.md: it has {needed}"
-
-
-# The rule: what works with a version works with each later one of the same major version. So a patch or a minor version adds at most.
-RULE = "0.2.0 breaks nothing that works with 0.1.0."
-ADDS = {"none", "more", "corrected"}
-# What nobody relies on may change at any time, and what keys are made of never changes before the next major version.
-FREE = ["what `bpfcanon-review` prints", "speed, memory, how the code is built"]
-FIXED = ["canonical bytes, listings, type listings", "canonical object files"]
-KEEPS = ["The canonical bytes of an input never change in form 1.", "An input that is accepted stays accepted.", RULE]
-
-
-def test_rule():
-    """Each row of the table allows no version what the rule forbids it, and a greater version at least as much as a smaller one."""
-    page = joined(STABILITY)
-    for sentence in KEEPS:
-        assert page.count(sentence) == 1, f"{sentence}: the page doesn't say so once"
-    part = STABILITY.read_text().partition("## What a version may change\n")[2].partition("\n## ")[0]
-    heads, _, *rows = [cells(line) for line in part.splitlines() if line.startswith("|")]
-    assert heads == ["", "Patch", "Minor", "Major"], f"the columns: they are {heads}"
-    assert {*FREE, *FIXED} <= {row[0] for row in rows}, f"the rows: they are {[row[0] for row in rows]}"
-    for what, patch, minor, major in rows:
-        smaller = [re.split(r"[ ,]", it)[0] for it in (patch, minor)]
-        if what in FREE:
-            is_right = smaller == ["any", "any"]
-        elif what in FIXED:
-            is_right = smaller == ["none", "none"]
-        else:
-            is_right = smaller[0] in ("none", "corrected") and smaller[1] in ADDS and (smaller[0] == "none" or smaller[1] == smaller[0])
-        assert is_right and major == "any", f"{what}: it may change: {patch}; {minor}; {major}"
