@@ -3,7 +3,6 @@
 import pytest
 
 from tests import long_listings
-from tests.process.test_refused_memory import FAULTY
 from tests.command import Ran
 from tests.samples import (
     EXIT,
@@ -79,20 +78,12 @@ def test_each_write(paced, line, given, output):
 # A text in pieces with its command; then rows of how many bytes a call moves, the write that fails, and how many bytes have gone by then.
 PIECES = {
     # 15,000 bytes in two pieces: 1,639 lines are the first 8,192 or more
-    "a listing": ("insn-show", lambda: long_listings.exits(3_000), [(1_000, 1, 0), (1_000, 2, 1_000), (1_000, 9, 8_000)]),
+    "a listing": ("insn-show", lambda: long_listings.exits(3_000), [(1_000, 9, 8_000), (1_000, 10, 8_195), (1, 8_196, 8_195)]),
     # 15,192 bytes in two pieces: the lines of 489 types are the first
-    "types": ("btf-show", lambda: long_listings.nameless(0, 900), [(1_000, 1, 0), (1_000, 2, 1_000), (1_000, 9, 8_000)]),
+    "types": ("btf-show", lambda: long_listings.nameless(0, 900), [(1_000, 9, 8_000), (1_000, 10, 8_205), (1, 8_206, 8_205)]),
     # 20,022 bytes: 13 before the name, 8,192 for each of two chunks, 3,616 for the third, and 9 after it; in pieces of 8,205, 8,192 and 3,625
-    "a long name": ("btf-show", lambda: long_listings.controls(5_000), [(1_000, 1, 0), (1_000, 9, 8_000), (1_000, 10, 8_205)]),
+    "a long name": ("btf-show", lambda: long_listings.controls(5_000), [(1_000, 10, 8_205), (1_000, 18, 16_205), (1, 16_398, 16_397)]),
 }
-PIECES["a listing"][2].extend(
-    [(1_000, 10, 8_195), (1_000, 11, 9_195), (1_000, 16, 14_195), (1, 1, 0), (1, 8_195, 8_194), (1, 8_196, 8_195)]
-)
-PIECES["a listing"][2].extend([(1, 8_197, 8_196), (1, 15_000, 14_999), (4_096, 4, 8_195)])
-PIECES["types"][2].extend([(1_000, 10, 8_205), (1_000, 11, 9_205), (1_000, 16, 14_205), (1, 1, 0), (1, 8_205, 8_204), (1, 8_206, 8_205)])
-PIECES["types"][2].extend([(1, 8_207, 8_206), (1, 15_192, 15_191), (4_096, 4, 8_205)])
-PIECES["a long name"][2].extend([(1_000, 18, 16_205), (1_000, 19, 16_397), (1_000, 22, 19_397), (1, 8_206, 8_205), (1, 16_398, 16_397)])
-PIECES["a long name"][2].extend([(1, 20_014, 20_013), (1, 20_022, 20_021)])
 
 
 @pytest.mark.parametrize("name", PIECES)
@@ -123,26 +114,9 @@ def test_faults(paced):
         assert paced.run("insn-canon", given, most, read=2) == right, f"insn-canon by {most} bytes"
 
 
-@pytest.mark.parametrize("name, line, given, right", FAULTY, ids=[it.name for it in FAULTY])
-def test_faults_by_single_bytes(paced, name, line, given, right):
-    assert paced.run(line, given, 1) == right, f"{line}, {name}"
-
-
 def test_fault_lines(paced):
     """Where the line on standard error is cut off, the status and the output are as ever."""
     message = b"fault 9 Src\n"
     for number in range(1, len(message) + 1):
         ran = paced.run("insn-canon", EXIT + SOURCE_BESIDE_IMMEDIATE, 1, message=number)
         assert ran == Ran(1, EXIT, message[: number - 1]), f"write {number}"
-
-
-def test_long_names(paced):
-    for count in 1, 2_047, 2_048, 2_049, 4_095, 4_096, 4_097, 6_144, 10_000:
-        file, text = long_listings.controls(count)
-        assert paced.run("btf-show", file, 4_096) == Ran(0, text, b""), f"{count} control characters"
-    for name, (file, text) in [
-        ("letters, then control characters", long_listings.letters_and_controls()),
-        ("the ends of one string", long_listings.ends_of_one_string()),
-        ("characters that are cut", long_listings.value_of_cut_characters()),
-    ]:
-        assert paced.run("btf-show", file, 4_096) == Ran(0, text, b""), name

@@ -81,12 +81,7 @@ IN_PIECES = [
     (samples.done("a long name in pieces", "btf-show", *long_listings.letters_and_controls()), 8_205),
 ]
 
-REFUSED_LINES = [
-    samples.refused_line("insn-same"),
-    samples.refused_line("insn-canon --order middle"),
-    samples.refused_line("insn-canon --help"),
-    samples.refused_line("leave"),
-]
+REFUSED_LINES = [samples.refused_line("insn-canon --order middle"), samples.refused_line("insn-canon --help")]
 
 
 def run_refused(program, shared_object, example, first, last):

@@ -1,22 +1,24 @@
-"""Runs the built command as users do: its arguments, its streams, its exit status.
+"""Runs the built command as users do: its streams, and how it ends when one of them fails, is cut off or never ends.
 
-No contract says what the system passes to `main`, nor which stream a line goes to. These tests compare both: for
-worked examples of every command, the exit status, the output and the line on standard error.
+No contract says what the system passes to `main`, nor which stream a line goes to. test_failing_calls.py has reads and writes that move
+single bytes, and lets each of them fail once.
 """
 
 import contextlib
 import os
 import select
-import socket
 import subprocess
+import threading
 
 import pytest
 
 from tests.command import SECONDS, Ran
-from tests.samples import CALL_BY_REGISTER, EXIT, INT_BIG, LOOSE_INT, MOV, MOV_BIG, SOURCE_BESIDE_IMMEDIATE
+from tests.samples import CALL_BY_REGISTER, EXIT, INT_BIG, LOOSE_INT, MOV, MOV_BIG, SOURCE_BESIDE_IMMEDIATE, btf, floats
 
 READ_FAILED = Ran(3, b"", b"read failed\n")
 WRITE_FAILED = Ran(3, b"", b"write failed\n")
+TOO_LONG = Ran(1, b"", b"too long\n")
+INSTRUCTION_LIMIT = 67_108_864
 
 # A line of each command that writes something, with its input.
 EACH_COMMAND = [
@@ -31,55 +33,10 @@ EACH_COMMAND = [
     ("btf-check", INT_BIG),
     ("btf-same --split 45", INT_BIG + LOOSE_INT),
 ]
+each_command = pytest.mark.parametrize("line, given", EACH_COMMAND, ids=[line or "no command" for line, _ in EACH_COMMAND])
 
 
 # ---- streams that fail
-
-
-def test_failing_reads(program):
-    with open_folder("/") as folder:
-        for line, _ in EACH_COMMAND:
-            assert program.run(line, stdin=folder) == READ_FAILED, f"{line} on a folder"
-            closed = program.run(line, preexec_fn=lambda: os.close(0))
-            assert closed == READ_FAILED, f"{line} on a closed input"
-            with pipe() as (reader, _):
-                os.set_blocking(reader, False)
-                assert program.run(line, stdin=reader) == READ_FAILED, f"{line} on a pipe that would block"
-
-
-def test_failing_writes(program):
-    with open("/dev/full", "wb") as full:
-        for line, given in EACH_COMMAND:
-            assert program.run(line, given, stdout=full) == WRITE_FAILED, f"{line} to a full device"
-            closed = program.run(line, given, preexec_fn=lambda: os.close(1))
-            assert closed == WRITE_FAILED, f"{line} to a closed output"
-            with pipe() as (reader, writer):
-                os.close(reader)
-                assert program.run(line, given, stdout=writer) == WRITE_FAILED, f"{line} to a cut pipe"
-
-
-def test_failing_fault_lines(program):
-    """Where the line on standard error can't be written, the status and the output are as ever."""
-    faulty = EXIT + SOURCE_BESIDE_IMMEDIATE
-    with open("/dev/full", "wb") as full:
-        for line, given, status, output in [
-            ("insn-canon", faulty, 1, EXIT),
-            ("insn-show", faulty, 1, b""),
-            ("insn-same", b"", 2, b""),
-            ("insn-show", EXIT, 0, b"exit\n"),
-        ]:
-            right = Ran(status, output, b"")
-            assert program.run(line, given, stderr=full) == right, f"{line}, full"
-            assert program.run(line, given, preexec_fn=lambda: os.close(2)) == right, f"{line}, closed"
-
-
-@contextlib.contextmanager
-def open_folder(path):
-    folder = os.open(path, os.O_RDONLY)
-    try:
-        yield folder
-    finally:
-        os.close(folder)
 
 
 @contextlib.contextmanager
@@ -93,98 +50,159 @@ def pipe():
                 os.close(end)
 
 
-# ---- calls that fail once
+@each_command
+def test_failing_reads(program, line, given):
+    """A folder, a closed input, and a pipe that would block."""
+    folder = os.open("/", os.O_RDONLY)
+    assert program.run(line, stdin=folder) == READ_FAILED
+    os.close(folder)
+    assert program.run(line, preexec_fn=lambda: os.close(0)) == READ_FAILED
+    with pipe() as (reader, _):
+        os.set_blocking(reader, False)
+        assert program.run(line, stdin=reader) == READ_FAILED
 
 
-def input_that_fails_once(first):
-    """A socket that delivers these bytes, then one error, and then its end."""
-    ours, theirs = socket.socketpair()
-    theirs.send(b"unread")
-    ours.send(first)
-    ours.close()  # with bytes that nobody read: the other side learns once that the connection was reset
-    return theirs
+@each_command
+def test_failing_writes(program, line, given):
+    """A full device, a closed output, and a pipe that nobody reads."""
+    with open("/dev/full", "wb") as full:
+        assert program.run(line, given, stdout=full) == WRITE_FAILED
+    assert program.run(line, given, preexec_fn=lambda: os.close(1)) == WRITE_FAILED
+    with pipe() as (reader, writer):
+        os.close(reader)
+        assert program.run(line, given, stdout=writer) == WRITE_FAILED
 
 
-def output_that_fails_once():
-    """A socket whose next write fails, and which accepts all that follow."""
-    with socket.socket(socket.AF_INET, socket.SOCK_DGRAM) as taken:
-        taken.bind(("127.0.0.1", 0))
-        port = taken.getsockname()[1]
-    output = socket.socket(socket.AF_INET, socket.SOCK_DGRAM)
-    output.connect(("127.0.0.1", port))
-    output.send(b"nobody listens")
-    waiting = select.poll()
-    waiting.register(output, select.POLLERR)
-    if not waiting.poll(5_000):
-        raise OSError("a datagram that nobody takes isn't answered by an error")
-    return output
+@pytest.mark.parametrize(
+    "line, given, status, output",
+    [
+        ("insn-canon", EXIT + SOURCE_BESIDE_IMMEDIATE, 1, EXIT),
+        ("insn-show", EXIT + SOURCE_BESIDE_IMMEDIATE, 1, b""),
+        ("insn-same", b"", 2, b""),
+        ("insn-show", EXIT, 0, b"exit\n"),
+    ],
+)
+def test_failing_fault_lines(program, line, given, status, output):
+    """Where the line on standard error can't be written, the status and the output are as ever."""
+    with open("/dev/full", "wb") as full:
+        assert program.run(line, given, stderr=full) == Ran(status, output, b"")
+    assert program.run(line, given, preexec_fn=lambda: os.close(2)) == Ran(status, output, b"")
+    with pipe() as (reader, writer):
+        os.close(reader)
+        assert program.run(line, given, stderr=writer) == Ran(status, output, b"")
 
 
-def fails_once(call, following):
-    """Whether the first call fails and the next one doesn't."""
-    try:
-        call()
-        return False
-    except OSError:
-        pass
-    try:
-        return following()
-    except OSError:
-        return False
+# ---- pipes that are cut off or never end
 
 
-def test_reads_are_not_tried_again(program):
-    with input_that_fails_once(b"") as trial:
-        if not fails_once(lambda: trial.recv(1), lambda: trial.recv(1) == b""):
-            pytest.skip("this system's sockets have no such read")
-    for line, given in EACH_COMMAND:
-        writes_as_it_reads = line == "" or line.startswith("insn-canon")
-        output = program.run(line, given).output if writes_as_it_reads else b""
-        with input_that_fails_once(given) as failing:
-            right = Ran(3, output, b"read failed\n")
-            assert program.run(line, stdin=failing) == right, f"{line}, then a failed read"
+class Running:
+    """A program between two pipes. Whatever happens, it doesn't outlive its `with`."""
+
+    def __init__(self, program, line):
+        # SIGPIPE is as it is by default, so that a program that doesn't see to it is killed
+        pipes = {"stdin": subprocess.PIPE, "stdout": subprocess.PIPE, "stderr": subprocess.PIPE}
+        self.process = subprocess.Popen([program.path, *line.split()], bufsize=0, **pipes)
+
+    def __enter__(self):
+        return self
+
+    def __exit__(self, *_):
+        self.process.kill()
+        self.process.wait()
+        for stream in self.process.stdin, self.process.stdout, self.process.stderr:
+            with contextlib.suppress(OSError):
+                stream.close()
+
+    def feed(self, pieces):
+        """Writes pieces from a thread of its own until they end, then closes the input. Ends if nobody reads it."""
+        self.cut = threading.Event()
+        threading.Thread(target=self.feed_now, args=[pieces], daemon=True).start()
+
+    def feed_now(self, pieces):
+        try:
+            for piece in pieces:
+                rest = memoryview(piece)
+                while rest:
+                    rest = rest[os.write(self.process.stdin.fileno(), rest) :]
+            self.process.stdin.close()
+        except (OSError, ValueError):
+            self.cut.set()
+
+    def read(self, count, stream=None):
+        """The next bytes of the output or of another stream, fewer if they are late or if it ends."""
+        stream, read = stream or self.process.stdout, bytearray()
+        while len(read) < count and select.select([stream], [], [], SECONDS)[0]:
+            more = os.read(stream.fileno(), min(count - len(read), 1 << 20))
+            if not more:
+                break
+            read += more
+        return bytes(read)
+
+    def end(self, output=b""):
+        """How the command ended, with the output that was read before. Raises `subprocess.TimeoutExpired` if it hangs."""
+        self.process.wait(SECONDS)
+        return Ran(self.process.returncode, output, self.process.stderr.read())
 
 
-def test_writes_are_not_tried_again(program):
-    try:
-        with output_that_fails_once() as trial:
-            if not fails_once(lambda: trial.send(b"1"), lambda: trial.send(b"2") == 1):
-                raise OSError("a datagram socket has no such write")
-    except OSError as why:
-        pytest.skip(str(why))
-    for line, given in EACH_COMMAND:
-        with output_that_fails_once() as failing:
-            assert program.run(line, given, stdout=failing) == WRITE_FAILED, f"{line}, to a failed write"
+# More output than a pipe holds, even at the default 65,536 bytes.
+EXITS, FLOATS = EXIT * 100_000, floats([1] * 20_000)
+LARGE = {
+    "insn-canon": (EXITS, EXITS),
+    "insn-show": (EXITS, b"exit\n" * 100_000),
+    "insn-read": (b"exit\n" * 100_000, EXITS),
+    "btf-canon": (btf("big", FLOATS, b"\0d\0"), btf("little", FLOATS, b"\0d\0")),
+    "btf-show": (btf("little", FLOATS, b"\0d\0"), b"".join(b'[%d] float "d" size=8\n' % number for number in range(1, 20_001))),
+}
 
 
-# ---- answers before the input's end
+@pytest.mark.parametrize("count", [1, 4_096, 150_000])
+@pytest.mark.parametrize("line", LARGE)
+def test_readers_that_go_away(program, line, count):
+    given, output = LARGE[line]
+    with Running(program, line) as running:
+        running.feed([given])
+        read = running.read(count)
+        running.process.stdout.close()
+        assert running.end(read) == Ran(3, output[:count], b"write failed\n")
 
 
-def start(program, line):
-    words = [program.path, *line.split()]
-    return subprocess.Popen(words, bufsize=0, stdin=subprocess.PIPE, stdout=subprocess.PIPE, stderr=subprocess.PIPE)
+def endless(piece):
+    while True:
+        yield piece * 10_000
 
 
-def read_within(stream, count):
-    """The next bytes of a stream, fewer if they are late or if it ends."""
-    read = b""
-    while len(read) < count and select.select([stream], [], [], SECONDS)[0]:
-        more = os.read(stream.fileno(), count - len(read))
-        if not more:
-            break
-        read += more
-    return read
+def test_cut_amid_an_endless_input(program):
+    with Running(program, "insn-canon --order big") as running:
+        running.feed(endless(MOV_BIG))
+        read = running.read(1_000)
+        running.process.stdout.close()
+        assert running.end(read) == Ran(3, (MOV * 125)[:1_000], b"write failed\n")
+        assert running.cut.wait(SECONDS)
 
 
-def test_answers_amid_the_input(program):
-    for line, given, output in [("", EXIT, EXIT), ("insn-canon --order big", MOV_BIG, MOV)]:
-        with start(program, line) as running:
-            for turn in range(3):
-                for at in range(len(given)):
-                    running.stdin.write(given[at : at + 1])
-                read = read_within(running.stdout, len(output))
-                assert read == output, f"{line}, instruction {turn}: it gave {read}"
-            running.stdin.write(CALL_BY_REGISTER)
-            message = read_within(running.stderr, len(b"fault 24 Opcode\n"))
-            assert message == b"fault 24 Opcode\n", f"{line}: it wrote {message}"
-            assert running.wait(SECONDS) == 1, f"{line}: status {running.returncode}"
+@pytest.mark.parametrize("line", [line for line, _ in EACH_COMMAND if line and "canon --order" not in line])
+def test_endless_zeros(program, line):
+    with open("/dev/zero", "rb") as zeros:
+        assert program.run(line, stdin=zeros) == TOO_LONG
+
+
+def test_endless_exits(program):
+    with Running(program, "insn-canon") as running:
+        running.feed(endless(EXIT))
+        read = running.read(INSTRUCTION_LIMIT + 1)
+        assert running.end(read) == Ran(1, EXIT * (INSTRUCTION_LIMIT // len(EXIT)), b"too long\n")
+        assert running.cut.wait(SECONDS)
+
+
+@pytest.mark.parametrize("line, given, output", [("", EXIT, EXIT), ("insn-canon --order big", MOV_BIG, MOV)])
+def test_answers_amid_the_input(program, line, given, output):
+    """Each instruction is written when its last byte has come."""
+    with Running(program, line) as running:
+        for _ in range(3):
+            for at in range(len(given)):
+                running.process.stdin.write(given[at : at + 1])
+            assert running.read(len(output)) == output
+        running.process.stdin.write(CALL_BY_REGISTER)
+        message = b"fault 24 Opcode\n"
+        assert running.read(len(message), running.process.stderr) == message
+        assert running.process.wait(SECONDS) == 1
