@@ -4,7 +4,6 @@ from __future__ import annotations
 
 import struct
 from pathlib import Path
-from typing import Callable
 
 import pytest
 
@@ -14,26 +13,14 @@ from tests.needs import need
 from tests.objects.btf_changes import extension_of, set_extension
 from tests.objects.btf_file import LINES
 from tests.objects.elf_file import NOBITS, ElfFile, Symbol
-from tests.objects.known import DIFFERENCES, Known
-
-Edit = Callable[[ElfFile], None]
+from tests.objects.known import DIFFERENCES, Edit, Known, section
 
 
-def field(section: bytes, **fields: int) -> Edit:
-    """Set fields of a section."""
-
-    def edit(file: ElfFile) -> None:
-        for name, value in fields.items():
-            setattr(file.sections[file.indices(section)[0]], name, value)
-
-    return edit
-
-
-def labels(section: bytes, *rows: tuple[bytes, int, int]) -> Edit:
+def labels(place: bytes, *rows: tuple[bytes, int, int]) -> Edit:
     """Add local symbols without a type: the name, value and size of each."""
 
     def edit(file: ElfFile) -> None:
-        index, symbols = file.indices(section)[0], file.symbols()
+        index, symbols = file.indices(place)[0], file.symbols()
         added = [Symbol(file.add_string(file.symbol_names, name), 0, 0, index, value, size) for name, value, size in rows]
         file.set_symbols([*symbols, *added])
 
@@ -69,10 +56,10 @@ def form(data: bytes, canon: Canon) -> bytes:
 
 # Who reads the two differently: libbpf's linker, cilium/ebpf, aya and newer releases of libbpf.
 PAIRS: dict[str, tuple[str, Edit, Edit]] = {
-    "align-values: cilium/ebpf": ("tails", as_it_is, field(b".maps", alignment=16)),
-    "linker-offset: libbpf's linker": ("data", as_it_is, field(b".data", alignment=1)),
-    "address-text: aya": ("calls", as_it_is, field(b".text", address=8)),
-    "address-program: aya": ("plain", as_it_is, field(b"socket1", address=8)),
+    "align-values: cilium/ebpf": ("tails", as_it_is, section(b".maps", alignment=16)),
+    "linker-offset: libbpf's linker": ("data", as_it_is, section(b".data", alignment=1)),
+    "address-text: aya": ("calls", as_it_is, section(b".text", address=8)),
+    "address-program: aya": ("plain", as_it_is, section(b"socket1", address=8)),
     "labels-maps: cilium/ebpf, aya": ("tails", labels(b".maps", (b"one", 0, 0), (b"two", 8, 0)), labels(b".maps", (b"one", 8, 0), (b"two", 0, 0))),
     "label-data: cilium/ebpf": ("data", as_it_is, labels(b".data", (b"label", 0, 0))),
     "label-program: cilium/ebpf": ("plain", labels(b"socket1", (b"allow", 0, 0)), labels(b"socket1", (b"deny", 0, 0))),

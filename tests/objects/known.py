@@ -8,10 +8,9 @@ from typing import Callable, Iterable, NamedTuple
 from tests.objects.btf_changes import btf_of, extension_of, set_btf, set_extension
 from tests.objects.btf_file import CORE, FUNCTIONS, LINES, Group, Record
 from tests.objects.changes import Base
-from tests.objects.elf_file import (
-    ALLOC, EXECINSTR, FUNCTION, GLOBAL, PROGBITS, REL, STRTAB, WEAK, ElfFile, Relocation, Section, Symbol,
-)  # fmt: skip
+from tests.objects.elf_file import ALLOC, EXECINSTR, FUNCTION, GLOBAL, PROGBITS, STRTAB, WEAK, ElfFile, Relocation, Section
 
+Edit = Callable[[ElfFile], None]
 STRUCT, FUNC_PROTO, DATASEC = 4, 13, 15
 KIND_FLAG = 1 << 31
 TEN = b"\xb7\x00\x00\x00\x0a\x00\x00\x00\x95\x00\x00\x00\x00\x00\x00\x00"  # mov r0, 10; exit
@@ -20,38 +19,106 @@ TEN = b"\xb7\x00\x00\x00\x0a\x00\x00\x00\x95\x00\x00\x00\x00\x00\x00\x00"  # mov
 class Known(NamedTuple):
     name: str
     base: str
-    change: Callable[[ElfFile], None]
+    change: Edit
 
 
-def add_section(file: ElfFile, name: bytes, content: bytes, place: int, type: int = PROGBITS, flags: int = 0, info: int = 0) -> None:
-    link, size = (file.symbol_table, 16) if type == REL else (0, 0)
-    file.insert(place, Section(file.add_string(file.names, name), type, flags, 0, link, info, 8, size, bytearray(content), len(content)))
+# ---- edits of a section or a symbol
 
 
 def found(file: ElfFile, name: bytes) -> int:
     return file.indices(name)[0]
 
 
-def with_symbol(file: ElfFile, name: bytes, change: Callable[[Symbol], None]) -> None:
-    symbols = file.symbols()
-    change(next(it for it in symbols if file.string(file.symbol_names, it.name) == name))
-    file.set_symbols(symbols)
+def section(name: bytes, /, flip: int = -1, without: int = 0, **fields: object) -> Edit:
+    """Set fields of a section, clear flags, and change bits of a byte of its content."""
+
+    def edit(file: ElfFile) -> None:
+        row = file.sections[found(file, name)]
+        row.flags &= ~without
+        if flip >= 0:
+            row.content[flip] ^= 0x55
+        for field, value in fields.items():
+            setattr(row, field, value)
+
+    return edit
+
+
+def section_named(old: bytes, new: bytes) -> Edit:
+    return lambda file: section(old, name=file.add_string(file.names, new))(file)
+
+
+def added(name: bytes, content: bytes, place: int = 0) -> Edit:
+    """Add a section, at the end if no place is given."""
+
+    def edit(file: ElfFile) -> None:
+        row = Section(file.add_string(file.names, name), PROGBITS, 0, 0, 0, 0, 8, 0, bytearray(content), len(content))
+        file.insert(place or len(file.sections), row)
+
+    return edit
+
+
+def exchanged(first: bytes, second: bytes) -> Edit:
+    """Two sections in the other sequence, with all indices."""
+
+    def edit(file: ElfFile) -> None:
+        order = list(range(len(file.sections)))
+        a, b = found(file, first), found(file, second)
+        order[a], order[b] = b, a
+        file.reorder_sections(order)
+
+    return edit
 
 
 def number_of(file: ElfFile, name: bytes) -> int:
     return next(number for number, it in enumerate(file.symbols()) if file.string(file.symbol_names, it.name) == name)
 
 
+def symbol(*names: bytes, **fields: int) -> Edit:
+    """Set fields of symbols."""
+
+    def edit(file: ElfFile) -> None:
+        symbols = file.symbols()
+        for name in names:
+            for field, value in fields.items():
+                setattr(symbols[number_of(file, name)], field, value)
+        file.set_symbols(symbols)
+
+    return edit
+
+
+def symbol_named(old: bytes, new: bytes) -> Edit:
+    return lambda file: symbol(old, name=file.add_string(file.symbol_names, new))(file)
+
+
+def slots(change: Callable[[Relocation, Relocation], list[Relocation]]) -> Edit:
+    """Change the two relocations of a map of programs."""
+
+    def edit(file: ElfFile) -> None:
+        index = found(file, b".rel.maps")
+        first, last = file.relocations(index)
+        file.set_relocations(index, change(first, last))
+
+    return edit
+
+
+def groups(word: str, change: Callable[[list[Group]], object]) -> Edit:
+    def edit(file: ElfFile) -> None:
+        extension = extension_of(file)
+        assert extension
+        change(extension.part(word).groups)
+        set_extension(file, extension)
+
+    return edit
+
+
+# ---- other edits
+
+
 def code_twice(file: ElfFile) -> None:
     old = found(file, b"socket1")
     twin = replace(file.sections[old], flags=EXECINSTR, content=bytearray(TEN + bytes(file.sections[old].content[len(TEN) :])))
     file.insert(len(file.sections), twin)
-    with_symbol(file, b"drop_long", lambda it: setattr(it, "section", len(file.sections) - 1))
-
-
-def license_twice(file: ElfFile) -> None:
-    """As `llvm-objcopy --add-section license=FILE` does it."""
-    add_section(file, b"license", b"Proprietary\0", len(file.sections))
+    symbol(b"drop_long", section=len(file.sections) - 1)(file)
 
 
 def constants_twice(file: ElfFile) -> None:
@@ -66,118 +133,12 @@ def constants_twice(file: ElfFile) -> None:
     file.set_symbols(symbols)
 
 
-def function_hidden(file: ElfFile) -> None:
-    with_symbol(file, b"global_half", lambda it: setattr(it, "other", 2))
-
-
-def variable_hidden(file: ElfFile) -> None:
-    for name in (b"threshold", b"weak_value"):
-        with_symbol(file, name, lambda it: setattr(it, "other", 1))
-
-
-def data_not_allocated(file: ElfFile) -> None:
-    section = file.sections[found(file, b".data")]
-    section.flags, section.content[0] = section.flags & ~ALLOC, section.content[0] ^ 0xFF
-
-
-def data_more(file: ElfFile) -> None:
-    add_section(file, b".data.more", b"more", 1)
-
-
-def data_ignored(file: ElfFile) -> None:
-    file.sections[found(file, b".data.custom")].type = STRTAB
-
-
-def constant_changed(file: ElfFile) -> None:
-    """The program is mov r0, 5; exit, and becomes mov r0, 4; exit."""
-    file.sections[found(file, b"struct_ops/undo")].content[4] ^= 1
-
-
-def zeros_more(file: ElfFile) -> None:
-    file.sections[found(file, b".bss")].size += 8
-
-
-def code_ignored(file: ElfFile) -> None:
-    file.sections[found(file, b"socket/second")].name = file.add_string(file.names, b".debug_second")
-
-
-def code_not_executable(file: ElfFile) -> None:
-    file.sections[found(file, b"socket/second")].flags &= ~EXECINSTR
-
-
-def operations_more(file: ElfFile) -> None:
-    add_section(file, b".struct_ops", b"\0" * 112, len(file.sections))
-
-
-def legacy_maps(file: ElfFile) -> None:
-    add_section(file, b"maps", b"\0" * 20, len(file.sections))
-
-
-def license_cut(file: ElfFile) -> None:
-    file.sections[found(file, b"license")].content[:] = b"GPL\0and more"
-
-
-def license_in_capitals(file: ElfFile) -> None:
-    file.sections[found(file, b"license")].name = file.add_string(file.names, b"LICENSE")
-
-
-def renamed(name: bytes) -> Callable[[ElfFile], None]:
-    """The program `print` with another name."""
-
-    def change(file: ElfFile) -> None:
-        offset = file.add_string(file.symbol_names, name)
-        with_symbol(file, b"print", lambda it: setattr(it, "name", offset))
-
-    return change
-
-
-def exchanged(first: bytes, second: bytes) -> Callable[[ElfFile], None]:
-    """Two sections in the other sequence, with all indices."""
-
-    def change(file: ElfFile) -> None:
-        order = list(range(len(file.sections)))
-        a, b = found(file, first), found(file, second)
-        order[a], order[b] = b, a
-        file.reorder_sections(order)
-
-    return change
-
-
-def slots_exchanged(file: ElfFile) -> None:
-    index = found(file, b".rel.maps")
-    relocations = file.relocations(index)
-    relocations[0].symbol, relocations[1].symbol = relocations[1].symbol, relocations[0].symbol
-    file.set_relocations(index, relocations)
-
-
-def slot_twice(file: ElfFile) -> None:
-    """The last relocation of a slot counts."""
-    index = found(file, b".rel.maps")
-    first, last = file.relocations(index)
-    file.set_relocations(index, [first, last, Relocation(first.offset, first.type, last.symbol)])
-
-
-def slots_skipped(file: ElfFile) -> None:
-    """libbpf knows the relocations of maps by the name of their section."""
-    file.sections[found(file, b".rel.maps")].name = file.add_string(file.names, b".rel.maps ")
-
-
 def relocations_twice(file: ElfFile) -> None:
     index = found(file, b".relsocket")
-    section = file.sections[index]
     relocations = file.relocations(index)
     relocations[0].symbol = number_of(file, b"custom")
-    twin = replace(section, content=bytearray(section.content))
-    file.insert(len(file.sections), twin)
+    file.insert(len(file.sections), replace(file.sections[index], content=bytearray(file.sections[index].content)))
     file.set_relocations(len(file.sections) - 1, relocations[:1])
-
-
-def relocation_entries(file: ElfFile) -> None:
-    file.sections[found(file, b".relsocket")].entry_size = 24
-
-
-def symbol_entries(file: ElfFile) -> None:
-    file.sections[file.symbol_table].entry_size = 0
 
 
 def symbols_twice(file: ElfFile) -> None:
@@ -197,44 +158,16 @@ def alias(file: ElfFile) -> None:
     file.set_symbols([*symbols, twin])
 
 
-def extern_weak(file: ElfFile) -> None:
-    with_symbol(file, b"bpf_kfunc_call_test", lambda it: setattr(it, "info", WEAK << 4))
-
-
-def extern_typed(file: ElfFile) -> None:
-    """An extern is a symbol without a type."""
-    with_symbol(file, b"bpf_kfunc_call_test", lambda it: setattr(it, "info", GLOBAL << 4 | FUNCTION))
-
-
-def with_groups(file: ElfFile, word: str, change: Callable[[list[Group]], object]) -> None:
-    extension = extension_of(file)
-    assert extension
-    change(extension.part(word).groups)
-    set_extension(file, extension)
-
-
-def functions_split(file: ElfFile) -> None:
+def split(functions: list[Group]) -> None:
     """libbpf looks only at the first group of a section."""
-
-    def split(groups: list[Group]) -> None:
-        groups.append(Group(groups[0].name, groups[0].records[1:]))
-        groups[0].records = groups[0].records[:1]
-
-    with_groups(file, FUNCTIONS, split)
+    functions.append(Group(functions[0].name, functions[0].records[1:]))
+    functions[0].records = functions[0].records[:1]
 
 
-def functions_exchanged(file: ElfFile) -> None:
-    with_groups(file, FUNCTIONS, lambda groups: groups[0].records.reverse())
-
-
-def lines_of_caller(file: ElfFile) -> None:
-    """libbpf refuses a function without lines if its caller has some."""
-    with_groups(file, LINES, lambda groups: groups.pop(0))
-
-
-def no_lines_in_group(file: ElfFile) -> None:
-    """libbpf refuses all of .BTF.ext for a group without records."""
-    with_groups(file, LINES, lambda groups: groups.append(Group(groups[0].name, [])))
+def at_one_place(core: list[Group]) -> None:
+    """libbpf keeps the sequence of records of one instruction."""
+    first, second = core[0].records[:2]
+    first.words[0], core[0].records[:2] = second.words[0], [second, first]
 
 
 def longer_records(file: ElfFile) -> None:
@@ -251,16 +184,6 @@ def functions_without_length(file: ElfFile) -> None:
     """The part of functions is only the size of its records."""
     content = file.sections[found(file, b".BTF.ext")].content
     content[12:16] = (4).to_bytes(4, "little")
-
-
-def core_at_one_place(file: ElfFile) -> None:
-    """libbpf keeps the sequence of records of one instruction."""
-
-    def exchange(groups: list[Group]) -> None:
-        first, second = groups[0].records[:2]
-        first.words[0], groups[0].records[:2] = second.words[0], [second, first]
-
-    with_groups(file, CORE, exchange)
 
 
 def no_name_elsewhere(file: ElfFile) -> None:
@@ -314,44 +237,49 @@ def sized_by_names(file: ElfFile) -> None:
 
 DIFFERENCES = (
     Known("code twice", "plain", code_twice),
-    Known("license twice", "tails", license_twice),
+    # As `llvm-objcopy --add-section license=FILE` does it.
+    Known("license twice", "tails", added(b"license", b"Proprietary\0")),
     Known("constants twice", "data", constants_twice),
-    Known("a function is hidden", "calls", function_hidden),
-    Known("variables are hidden", "data", variable_hidden),
-    Known("data without SHF_ALLOC", "data", data_not_allocated),
-    Known("a section of data more", "data", data_more),
-    Known("data with the type of strings", "data", data_ignored),
-    Known("another constant in code", "operations", constant_changed),
-    Known("more zeros", "data", zeros_more),
-    Known("code with the name of debugging information", "data", code_ignored),
-    Known("code without SHF_EXECINSTR", "data", code_not_executable),
-    Known("operations more", "calls", operations_more),
-    Known("legacy maps", "calls", legacy_maps),
-    Known("a license with a NUL", "calls", license_cut),
-    Known("a license in capitals", "data", license_in_capitals),
-    Known("a name with a byte that isn't UTF-8", "data", renamed(b"print\xff")),
-    Known("a name with another such byte", "data", renamed(b"print\xfe")),
-    Known("a name in capitals", "data", renamed(b"Print")),
-    Known("a name with a NUL", "data", renamed(b"pri\0nt")),
+    Known("a function is hidden", "calls", symbol(b"global_half", other=2)),
+    Known("variables are hidden", "data", symbol(b"threshold", b"weak_value", other=1)),
+    Known("data without SHF_ALLOC", "data", section(b".data", flip=0, without=ALLOC)),
+    Known("a section of data more", "data", added(b".data.more", b"more", 1)),
+    Known("data with the type of strings", "data", section(b".data.custom", type=STRTAB)),
+    Known("another constant in code", "operations", section(b"struct_ops/undo", flip=4)),
+    Known("more zeros", "data", section(b".bss", size=4096)),
+    Known("code with the name of debugging information", "data", section_named(b"socket/second", b".debug_second")),
+    Known("code without SHF_EXECINSTR", "data", section(b"socket/second", without=EXECINSTR)),
+    Known("operations more", "calls", added(b".struct_ops", b"\0" * 112)),
+    Known("legacy maps", "calls", added(b"maps", b"\0" * 20)),
+    Known("a license with a NUL", "calls", section(b"license", content=bytearray(b"GPL\0and more"))),
+    Known("a license in capitals", "data", section_named(b"license", b"LICENSE")),
+    Known("a name with a byte that isn't UTF-8", "data", symbol_named(b"print", b"print\xff")),
+    Known("a name with another such byte", "data", symbol_named(b"print", b"print\xfe")),
+    Known("a name in capitals", "data", symbol_named(b"print", b"Print")),
+    Known("a name with a NUL", "data", symbol_named(b"print", b"pri\0nt")),
     Known("code in another sequence", "data", exchanged(b"socket", b"socket/second")),
     Known("data in another sequence", "data", exchanged(b".data", b".data.custom")),
-    Known("slots of a map exchanged", "tails", slots_exchanged),
-    Known("a slot of a map twice", "tails", slot_twice),
-    Known("relocations of maps under another name", "tails", slots_skipped),
+    Known("slots of a map exchanged", "tails", slots(lambda a, b: [replace(a, symbol=b.symbol), replace(b, symbol=a.symbol)])),
+    # The last relocation of a slot counts.
+    Known("a slot of a map twice", "tails", slots(lambda a, b: [a, b, replace(a, symbol=b.symbol)])),
+    # libbpf knows the relocations of maps by the name of their section.
+    Known("relocations of maps under another name", "tails", section_named(b".rel.maps", b".rel.maps ")),
     Known("relocations twice", "data", relocations_twice),
-    Known("the size of relocations", "data", relocation_entries),
-    Known("the size of symbols", "data", symbol_entries),
+    Known("the size of relocations", "data", section(b".relsocket", entry_size=24)),
+    Known("the size of symbols", "data", section(b".symtab", entry_size=0)),
     Known("a variable twice", "data", symbols_twice),
     Known("an alias", "data", alias),
-    Known("a weak extern", "externs", extern_weak),
-    Known("an extern with a type", "externs", extern_typed),
-    Known("functions of a section in two groups", "calls", functions_split),
-    Known("functions exchanged", "calls", functions_exchanged),
-    Known("lines of a called function are missing", "calls", lines_of_caller),
-    Known("a group without lines", "calls", no_lines_in_group),
+    Known("a weak extern", "externs", symbol(b"bpf_kfunc_call_test", info=WEAK << 4)),
+    # An extern is a symbol without a type.
+    Known("an extern with a type", "externs", symbol(b"bpf_kfunc_call_test", info=GLOBAL << 4 | FUNCTION)),
+    Known("functions of a section in two groups", "calls", groups(FUNCTIONS, split)),
+    Known("functions exchanged", "calls", groups(FUNCTIONS, lambda it: it[0].records.reverse())),
+    # libbpf refuses a function without lines if its caller has some, and all of .BTF.ext for a group without records.
+    Known("lines of a called function are missing", "calls", groups(LINES, lambda it: it.pop(0))),
+    Known("a group without lines", "calls", groups(LINES, lambda it: it.append(Group(it[0].name, [])))),
     Known("longer records", "calls", longer_records),
     Known("functions without records", "calls", functions_without_length),
-    Known("CO-RE records of one instruction", "core", core_at_one_place),
+    Known("CO-RE records of one instruction", "core", groups(CORE, at_one_place)),
     Known("an empty name that isn't the first string", "externs", no_name_elsewhere),
     Known("kind_flag without bit-fields", "maps", flag_without_bit_fields),
     Known("types in the other byte order", "maps", types_swapped),

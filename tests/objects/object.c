@@ -7,11 +7,10 @@
 #include <stdint.h>
 
 #include "kernel.h"
-#include "light.h"
 #include "types.h"
 #include "view.h"
 
-enum { MAX_PROGRAMS = 16, MAX_LOOKUPS = 8 };
+enum { MAX_PROGRAMS = 16 };
 
 static struct bpf_object *open_object(const struct file *file)
 {
@@ -98,39 +97,6 @@ static void choose(struct bpf_object *object, unsigned chosen)
 	}
 }
 
-/* Runs a loader, and once more for each type and symbol that it looks up without this one: only those that are weak may be missing. */
-static void view_light_runs(const struct gen_loader_opts *loader)
-{
-	struct light_run run = run_light_loader(loader, 0);
-	unsigned missing;
-
-	view_text("loader returns %ld\n", run.result);
-	for (missing = 1; missing <= run.lookups && missing <= MAX_LOOKUPS; missing++) {
-		size_t length = view_length();
-		long result = run_light_loader(loader, missing).result;
-
-		view_shorten(length);
-		view_text("loader returns %ld without lookup %u\n", result, missing);
-	}
-}
-
-/* Loads an object into a light skeleton, and runs its loader. */
-static bool view_light(struct bpf_object *object)
-{
-	LIBBPF_OPTS(gen_loader_opts, loader);
-	int error;
-
-	forget_pins(object);
-	error = bpf_object__gen_loader(object, &loader);
-	if (!error)
-		error = bpf_object__load(object);
-	view_text("light load %d\n", error);
-	view_programs(object);
-	if (!error)
-		view_light_runs(&loader);
-	return !error;
-}
-
 static bool view_load(struct bpf_object *object)
 {
 	struct bpf_map *map;
@@ -146,16 +112,6 @@ static bool view_load(struct bpf_object *object)
 		if (bpf_map__type(map) == BPF_MAP_TYPE_STRUCT_OPS)
 			bpf_map__attach_struct_ops(map);
 	return true;
-}
-
-static bool has_struct_ops(const struct bpf_object *object)
-{
-	struct bpf_map *map;
-
-	bpf_object__for_each_map(map, object)
-		if (bpf_map__type(map) == BPF_MAP_TYPE_STRUCT_OPS)
-			return true;
-	return false;
 }
 
 static bool loads_all(const struct bpf_object *object)
@@ -178,28 +134,12 @@ static unsigned count_programs(const struct bpf_object *object)
 	return count < MAX_PROGRAMS ? count : MAX_PROGRAMS;
 }
 
-/* Loads each program by itself: users of libbpf do so, and a program that can't be loaded would hide the others. */
-static void view_each(const struct file *file, unsigned count, bool is_light)
-{
-	unsigned chosen;
-
-	for (chosen = 0; chosen < count; chosen++) {
-		struct bpf_object *light = open_object(file), *object = open_object(file);
-
-		view_text("program %u by itself\n", chosen);
-		choose(light, chosen);
-		choose(object, chosen);
-		if (!is_light || !view_light(light))
-			view_load(object);
-	}
-}
-
-/* A light skeleton of struct_ops makes libbpf 1.1 read address 0. */
+/* If not all programs are loaded, each is loaded by itself: users of libbpf do so, and one that can't be loaded would hide the others. */
 void view_file(const struct file *file)
 {
 	struct bpf_object *object = open_object(file);
-	bool is_light, is_whole;
-	unsigned count;
+	bool is_whole;
+	unsigned count, chosen;
 
 	if (!object) {
 		view_text("open fails with %d\n", errno);
@@ -207,11 +147,13 @@ void view_file(const struct file *file)
 	}
 	view_opened(object);
 	count = count_programs(object);
-	is_light = !has_struct_ops(object);
 	is_whole = loads_all(object);
-	if (is_light)
-		is_whole = view_light(object) && is_whole;
-	is_whole = view_load(open_object(file)) && is_whole;
-	if (!is_whole)
-		view_each(file, count, is_light);
+	if (view_load(object) && is_whole)
+		return;
+	for (chosen = 0; chosen < count; chosen++) {
+		object = open_object(file);
+		view_text("program %u by itself\n", chosen);
+		choose(object, chosen);
+		view_load(object);
+	}
 }

@@ -9,8 +9,8 @@ struct file {
 	size_t size;
 };
 
-/* Adds what the object is after bpf_object__open, what the loader of its light skeleton loads, and what bpf_object__load loads. If not all
- * programs are loaded so, each of them is loaded by itself, too. What libbpf allocates isn't freed: the process ends after it. */
+/* Adds what the object is after bpf_object__open, and what bpf_object__load loads. If not all programs are loaded so, each of them is loaded
+ * by itself, too. What libbpf allocates isn't freed: the process ends after it. */
 void view_file(const struct file *file);
 
 #endif

@@ -8,7 +8,7 @@ from typing import Optional
 
 from tests.objects.bases import HERE, NATIVE, compile_source
 
-PARTS = ("loaded.c", "object.c", "kernel.c", "calls.c", "light.c", "types.c", "view.c")
+PARTS = ("loaded.c", "object.c", "kernel.c", "calls.c", "types.c", "view.c")
 REPLACED = ("syscall", "fopen64", "gzopen64", "btf__load_vmlinux_btf", "mkdir")
 
 
