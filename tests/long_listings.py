@@ -43,16 +43,3 @@ def controls(count):
 def letters_and_controls():
     """The first piece is what precedes the name and four chunks of letters, 8,205 bytes; the second needs a larger buffer."""
     return typedefs([1], b"\0" + b"n" * 14_336 + b"\x01" * 2_048 + b"\0", [b"n" * 14_336 + b"\\x01" * 2_048])
-
-
-def ends_of_one_string():
-    """Names that are the ends of one string, from the longest to the shortest."""
-    names = [b"n" * length for length in range(300, 0, -1)]
-    return typedefs(range(1, 301), b"\0" + b"n" * 300 + b"\0", names)
-
-
-def value_of_cut_characters():
-    """A value's name of 2-byte characters after a 1-byte one: each chunk ends inside a character."""
-    name = b"n" + b"\xc3\xa9" * 5_000
-    text = b'[1] enum "" unsigned size=4 items=1\n  value "%s" 7\n' % name
-    return btf("little", [0, 0x0600_0001, 4, 1, 7], b"\0" + name + b"\0"), text

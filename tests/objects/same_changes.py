@@ -25,16 +25,6 @@ def debug_removed(file: ElfFile, random: Random) -> Optional[str]:
     return f"{len(gone)} sections with debugging information removed"
 
 
-def debug_changed(file: ElfFile, random: Random) -> Optional[str]:
-    found = [it for it in debug_sections(file) if file.sections[it].content]
-    if not found:
-        return None
-    index = random.choice(found)
-    content = file.sections[index].content
-    content[random.randrange(len(content))] ^= 1 << random.randrange(8)
-    return f"a byte of {file.name(index)!r}"
-
-
 def locals_reordered(file: ElfFile, random: Random) -> Optional[str]:
     """The local symbols, or all, in another sequence, which relocations follow."""
     symbols = file.symbols()
@@ -124,17 +114,6 @@ def layout_changed(file: ElfFile, random: Random) -> Optional[str]:
     return f"contents in another sequence{', not aligned' if file.sections[1].alignment == 1 else ''}"
 
 
-def alignment_changed(file: ElfFile, random: Random) -> Optional[str]:
-    random.choice(alignable(file)).alignment = random.choice((1, 2, 4, 8, 16, 32))
-    return "alignment of a section"
-
-
-def header_changed(file: ElfFile, random: Random) -> Optional[str]:
-    file.flags, file.entry = random.getrandbits(8), random.getrandbits(16)
-    file.segments = random.choice((0, 0, 64, 1 << 40)), random.choice((0, 56, 1))
-    return "flags, entry and segments of the header"
-
-
 def lines_changed(file: ElfFile, random: Random) -> Optional[str]:
     """Source lines move, as a comment in the source moves them."""
     extension = extension_of(file)
@@ -184,7 +163,7 @@ def unused_symbol(file: ElfFile, random: Random) -> Optional[str]:
 
 
 CHANGES = (
-    (2, debug_removed), (1, debug_changed), (2, locals_reordered), (1, labels_removed), (2, names_laid_out), (2, type_strings_laid_out),
-    (2, layout_changed), (1, alignment_changed), (1, header_changed), (2, lines_changed), (2, line_texts_changed), (1, note_added),
+    (2, debug_removed), (2, locals_reordered), (1, labels_removed), (2, names_laid_out), (2, type_strings_laid_out),
+    (2, layout_changed), (2, lines_changed), (2, line_texts_changed), (1, note_added),
     (1, unused_symbol),
 )  # fmt: skip

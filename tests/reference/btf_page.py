@@ -190,28 +190,6 @@ COMPONENT = (
 )
 NONE, *PARTS = fitted(WHEN["Component"], COMPONENT)
 NO_COMPONENT, WITHOUT_PARTS, WITH_PARTS = int(NONE, 16), set(PARTS[:2]), set(PARTS[2:])
-# Cells without a number: btf_reference.py implements what they say, so their wording must not change unnoticed.
-PHRASES = {
-    "Magic": "neither magic",
-    "Sections": "neither type_off 0 and str_off = type_len, nor str_off 0 and type_off = str_len",
-    "FileLength": "hdr_len + type_len + str_len isn't the file's length",
-    "FirstString": "the string section's first byte isn't NUL",
-    "LastString": "its last byte isn't NUL",
-    "InfoBits": "an unused bit of info is set",
-    "FlagSet": "kind_flag 1 on a kind whose kind_flag is always 0",
-    "Vlen": "vlen isn't 0 on a kind without items, FUNC excepted",
-    "TailCut": "the record's data extends past the type section",
-    "NameRange": "the offset isn't less than str_len",
-    "NameUtf8": "the name isn't UTF-8",
-    "NameMissing": "the name is empty, and the record's kind requires one",
-    "NameUnwanted": "the name isn't empty, and the record's kind has none",
-    "NotZero": "the size or type of an ARRAY or FWD isn't 0",
-    "Reference": "an ID over the number of types",
-    "MemberPlace": "bit offset plus width, rounded up to bytes, is over the size",
-}
-for cause, phrase in PHRASES.items():
-    same(cause, phrase, WHEN[cause])
-
 # ---- type listings
 
 TEXT = table("Type listings", "Kind", "Line", "Lines of its items")
