@@ -21,11 +21,8 @@ FILES = {
     "crates/bpfcanon/src/main.rt": False,
     "capi/bpfcanon.c": False,
 }
-# A kit whose compiler makes an empty archive, its last word, after it has added a line to the file CHANGED.
-KIT = {
-    "rt": """[ "$1" != doc ] || echo "$KIT/guide.md"\n""",
-    "rattle": """[ -z "$CHANGED" ] || echo >>"$CHANGED"\nfor word; do target=$word; done\nar rcs "$target"\n""",
-}
+# A kit whose compiler makes an empty archive, its last word.
+KIT = {"rt": """[ "$1" != doc ] || echo "$KIT/guide.md"\n""", "rattle": """for word; do target=$word; done\nar rcs "$target"\n"""}
 
 
 @pytest.fixture(scope="module")
@@ -46,9 +43,9 @@ def tree(tmp_path_factory):
     return folder
 
 
-def ran(tree, *words, changed=""):
+def ran(tree, *words):
     kit = tree.parent / "kit"
-    own = {"PATH": f"{kit / 'bin'}:{os.environ['PATH']}", "KIT": str(kit), "CHANGED": str(changed)}
+    own = {"PATH": f"{kit / 'bin'}:{os.environ['PATH']}", "KIT": str(kit)}
     return subprocess.run([tree / "capi" / words[0], *words[1:]], env=os.environ | own, capture_output=True, text=True, timeout=SECONDS)
 
 
@@ -84,14 +81,3 @@ def test_changed(tree, archive, name):
     status, kept = taken(tree, archive).returncode, ran(tree, "archive", "--keep").stdout == ""
     file.write_bytes(text)
     assert (status, kept) == ((1, False) if FILES[name] else (0, True))
-
-
-def test_change_meanwhile(tree, archive):
-    """If the sources change while the archive is made, there is none."""
-    file = tree / "crates" / "bpf_words" / "src" / "lib.rt"
-    text = file.read_bytes()
-    archive.unlink()
-    done = ran(tree, "archive", changed=file)
-    file.write_bytes(text)
-    assert (done.returncode, done.stderr) == (1, "capi/archive: the sources were changed while the archive was made\n")
-    assert not archive.exists()

@@ -4,18 +4,13 @@ insn_reference.py and btf_reference.py check bytes by the tables of the pages. H
 vectors again with one of its fields changed, which is passed to the command too.
 """
 
-import itertools
 import re
 
 from tests.command import Ran
 from tests.reference import btf_reference, insn_reference
 from tests.reference.formats_page import fitted, table
-from tests.samples import btf
 from tests.vector_rows import data, rows, text
 
-# How many 32-bit fields follow the first three of a record, and how many each item has (btf.rst section 2.2), by kind.
-WORDS = {1: 1, 3: 3, 14: 1, 17: 1}
-ITEMS = {4: 3, 5: 3, 6: 2, 13: 2, 15: 3, 19: 3}
 # What a field of an instruction is changed to.
 REGISTERS = [*range(8), 10, 11, 15]
 OFFSETS = [0, 1, -1, 8, 16, 32]
@@ -123,31 +118,3 @@ def test_btf():
         for given in data(little), data(big):
             fault = btf_reference.first_fault(given)
             assert fault == (int(pos), cause), f"{name}: the page says {fault}"
-
-
-# Types 1 to 7, one of each kind that another type may need: INT, FUNC_PROTO with a parameter, STRUCT with a member, FUNC, VAR, TYPEDEF,
-# UNION with a member. The name "a" is at offset 1 of the string section.
-TARGETS = [1, 0x0100_0000, 4, 32, 0, 0x0D00_0001, 1, 1, 1, 1, 0x0400_0001, 4, 1, 1, 0]
-TARGETS += [1, 0x0C00_0000, 2, 1, 0x0E00_0000, 1, 0, 1, 0x0800_0000, 1, 1, 0x0500_0001, 4, 1, 1, 0]
-
-
-def tried_records():
-    """Records of each kind and of a number below and above them, with and without a name, kind_flag and items, and with each size or type."""
-    for kind, name, vlen in itertools.product(range(21), range(2), range(3)):
-        heads = [(0, third) for third in range(10)] + [(1, 4)]
-        for flag, third in heads:
-            # zeros after it, as many as a good record has
-            yield [name, flag << 31 | kind << 24 | vlen, third] + [0] * (WORDS.get(kind, 0) + vlen * ITEMS.get(kind, 0))
-    # tags on parts of each type, INTs with each bit and each encoding, and bit-fields of INTs with each number of bits
-    yield from ([1, 0x1100_0000, target, part] for target in range(10) for part in (0, 1, 2, 0xFFFF_FFFF))
-    yield from ([1, 0x0100_0000, 16, word] for word in [*(1 << bit for bit in range(32)), *(code << 24 for code in range(16)), 128, 129])
-    for word in [*range(130), 1 << 16 | 8]:
-        yield [1, 0x0100_0000, 16, word, 1, 0x8400_0001, 16, 0, 8, 1 << 24]
-
-
-def test_tried_records(program):
-    for words in tried_records():
-        given = btf("little", TARGETS + words, b"\0a\0")
-        fault = btf_reference.first_fault(given)
-        right = Ran(1, b"", f"fault {fault[0]} {fault[1]}\n".encode()) if fault else Ran(0, btf_reference.lines(given), b"")
-        assert program.run("btf-show", given) == right, " ".join(f"{word:x}" for word in words)

@@ -112,11 +112,3 @@ def test_faults(paced):
         (WIDE[:8], 8, Ran(3, b"", b"read failed\n")),
     ]:
         assert paced.run("insn-canon", given, most, read=2) == right, f"insn-canon by {most} bytes"
-
-
-def test_fault_lines(paced):
-    """Where the line on standard error is cut off, the status and the output are as ever."""
-    message = b"fault 9 Src\n"
-    for number in range(1, len(message) + 1):
-        ran = paced.run("insn-canon", EXIT + SOURCE_BESIDE_IMMEDIATE, 1, message=number)
-        assert ran == Ran(1, EXIT, message[: number - 1]), f"write {number}"

@@ -10,17 +10,14 @@ import struct
 import pytest
 
 from tests.command import Ran, refused
-from tests.samples import CALL_BY_REGISTER, EXIT, WIDE
+from tests.samples import EXIT
 
 INSTRUCTIONS = 67_108_864 // len(EXIT)
 INT_RECORDS = 33_554_432 // 16
 STRINGS = 16_777_216
-# The length of a line of 8 MB.
-LONG = 8 << 20
 HEADER = 4_096
 BTF_LIMIT = HEADER + 16 * INT_RECORDS + STRINGS
 INSN_LIMIT = INSTRUCTIONS * len(EXIT)
-FRONT = INSN_LIMIT - len(EXIT)
 SAME = b"same\n"
 EMPTY = bytes
 
@@ -97,34 +94,3 @@ def test_numbered_lines(run):
     text = b"".join(b"mov r9, %d\n" % number for number in range(1_000_000))
     assert run("insn-show", file) == Ran(0, text)
     assert run("insn-read", text) == Ran(0, file)
-
-
-# ---- what else is wrong at the limit
-
-
-def front():
-    return exits(INSTRUCTIONS - 1)
-
-
-# A command, an input, the message, and what precedes it. insn-canon reports a fault within the limit as it reads; the others first report
-# that the input is too long.
-FAULTS = {
-    "a fault before too much": ("insn-canon", lambda: front() + CALL_BY_REGISTER + EXIT, f"fault {FRONT} Opcode", front),
-    "a fault after the limit": ("insn-canon", lambda: exits() + CALL_BY_REGISTER, "too long", exits),
-    "a cut wide load": ("insn-canon", lambda: front() + WIDE[:8], f"fault {INSN_LIMIT} Truncated", front),
-    "a wide load over the limit": ("insn-canon", lambda: front() + WIDE, "too long", front),
-    "faulty instructions": ("insn-show", lambda: front() + CALL_BY_REGISTER, f"fault {FRONT} Opcode", EMPTY),
-    "faulty and too many": ("insn-groups", lambda: CALL_BY_REGISTER + front() + b"\x95", "too long", EMPTY),
-    "a long line": ("insn-read", lambda: b"mov r1, " + b"9" * LONG, "fault line 1 Range", EMPTY),
-    "a fault in the last line": ("insn-read", lambda: b"\n" * (INSN_LIMIT - 5) + b"leave", f"fault line {INSN_LIMIT - 4} Word", EMPTY),
-    "after the end": (f"insn-same --split {2 * INSN_LIMIT}", lambda: exits() + exits()[1:], "split beyond input", EMPTY),
-    "zeros": ("btf-show", lambda: bytes(BTF_LIMIT), "fault 0 Magic", EMPTY),
-    "a cut file": ("btf-canon", lambda: largest_btf()[:-1], f"fault {BTF_LIMIT - 1} FileLength", EMPTY),
-    "no second file": (f"btf-same --split {BTF_LIMIT}", largest_btf, "second: fault 0 ShortHeader", EMPTY),
-}
-
-
-@pytest.mark.parametrize("row", FAULTS)
-def test_fault_at_the_limit(run, row):
-    line, given, message, output = FAULTS[row]
-    assert run(line, given()) == refused(message, output())
