@@ -4,6 +4,8 @@ rt ci builds no static library, and links a program with the C library of this m
 rt would pass, and those of a processor. It proves the crate itself anew, and prints its verdict.
 """
 
+from __future__ import annotations
+
 import pathlib
 import shutil
 import subprocess
@@ -21,35 +23,35 @@ class Failed(Exception):
     """Why nothing is built: one sentence."""
 
 
-def read_crates():
+def read_crates() -> dict[str, list[str]]:
     """The libraries that each crate uses, by crates.txt. Libraries that it doesn't list are the kit's."""
     rows = (line.partition("#")[0].partition(":") for line in (TOP / "crates.txt").read_text().splitlines())
     return {head.split()[0]: uses.replace(",", " ").split() for head, _, uses in rows if head.strip()}
 
 
-def below(name, uses):
+def below(name: str, uses: dict[str, list[str]]) -> list[str]:
     """The repository's libraries that a crate uses, directly or not, each after those that it uses itself."""
     own = [it for it in uses[name] if it in uses]
     return list(dict.fromkeys(lower for it in own for lower in [*below(it, uses), it]))
 
 
-def library(name):
+def library(name: str) -> pathlib.Path:
     return TOP / "crates" / name / "out" / "rlib" / f"{name}.rlib"
 
 
-def is_newer(built, name, uses):
+def is_newer(built: pathlib.Path, name: str, uses: dict[str, list[str]]) -> bool:
     """Whether a file is newer than all that a crate is made from."""
     folders = [TOP / "crates" / crate / part for crate in [name, *below(name, uses)] for part in ("src", "specs", "proofs")]
     sources = [TOP / "crates.txt", *(it for folder in folders for it in folder.rglob("*") if it.is_file())]
     return built.is_file() and built.stat().st_mtime > max(it.stat().st_mtime for it in sources)
 
 
-def is_left_by_ci(name, uses):
+def is_left_by_ci(name: str, uses: dict[str, list[str]]) -> bool:
     has_stamp = (library(name).parent / "stamp").exists()
     return not has_stamp and is_newer(library(name) / "format", name, uses)
 
 
-def find_kit():
+def find_kit() -> pathlib.Path:
     if not shutil.which("rt"):
         raise Failed("there is no rt, which proves and compiles the crates")
     done = subprocess.run(["rt", "doc"], stdout=subprocess.PIPE, text=True)
@@ -58,7 +60,7 @@ def find_kit():
     return pathlib.Path(done.stdout.strip()).parent
 
 
-def bring_libraries(crate, uses):
+def bring_libraries(crate: str, uses: dict[str, list[str]]) -> None:
     """Proves and builds the libraries below a crate, unless rt ci has just left them.
 
     rt accepts a library only with a stamp, which says what sources it was built from, and rt ci writes none. A library without a
@@ -73,12 +75,12 @@ def bring_libraries(crate, uses):
         raise Failed(f"the libraries below {crate} aren't built")
 
 
-def compile_crate(crate, processor, target):
+def compile_crate(crate: str, processor: str, target: pathlib.Path) -> None:
     """Proves a crate and compiles it to a static library, or to the object of a program if it has a main function."""
     kit, uses = find_kit(), read_crates()
     bring_libraries(crate, uses)
     is_program = (TOP / "crates" / crate / "src" / "main.rt").is_file()
-    words = [kit / "bin" / "rattle", "build", "--crate-name", crate, "src/main.rt" if is_program else "src/lib.rt"]
+    words: list[str | pathlib.Path] = [kit / "bin" / "rattle", "build", "--crate-name", crate, "src/main.rt" if is_program else "src/lib.rt"]
     for name in ["std", *uses[crate]]:
         words += ["--extern", f"{name}={library(name) if name in uses else kit / 'rlibs' / f'{name}.rlib'}"]
     for folder in [kit / "rlibs", *(library(it).parent for it in below(crate, uses))]:
@@ -90,7 +92,7 @@ def compile_crate(crate, processor, target):
         raise Failed(f"{crate} isn't built for {processor}")
 
 
-def hash_of_sources(crate):
+def hash_of_sources(crate: str) -> str:
     if not shutil.which("sha256sum"):
         raise Failed("there is no sha256sum")
     done = subprocess.run([TOP / "capi" / "sources", crate], stdout=subprocess.PIPE, text=True)
