@@ -46,7 +46,7 @@ demo demo-proved:
 
 # The commands aren't a prerequisite: the sources of a release have the archive alone.
 out/meson/build.ninja:
-	meson setup out/meson -Dcommand=false
+	meson setup out/meson -Dtests=true
 INSTALL = meson configure out/meson --prefix $(1) --libdir $(2) -Dcommand=$(if $(filter-out $(wildcard $(COMMANDS)),$(COMMANDS)),false,true) && meson install -C out/meson --quiet
 $(LIBRARY): $(ARCHIVE) | out/meson/build.ninja
 	export DESTDIR= && $(call INSTALL,$(CURDIR)/out/prefix,lib)
@@ -86,9 +86,9 @@ release-objects: $(ARCHIVE)
 check-c: $(LIBRARY)
 	meson test -C out/meson --quiet --print-errorlogs
 	! command -v valgrind > out/found || meson test -C out/meson --quiet --print-errorlogs --setup valgrind --suite small
-	[ -d out/sanitized ] || meson setup out/sanitized -Dcommand=false -Db_sanitize=address,undefined -Db_lundef=false
+	[ -d out/sanitized ] || meson setup out/sanitized -Dtests=true -Db_sanitize=address,undefined -Db_lundef=false
 	meson test -C out/sanitized --quiet --print-errorlogs
-	[ -d out/thread ] || meson setup out/thread -Dcommand=false -Db_sanitize=thread -Db_lundef=false
+	[ -d out/thread ] || meson setup out/thread -Dtests=true -Db_sanitize=thread -Db_lundef=false
 	meson test -C out/thread --quiet --print-errorlogs threads
 
 # What was proved, and the hashes of what was built of it, unless the sources have changed since. A release needs this.

@@ -1,6 +1,6 @@
 /*
  * The heap of the proved calls over malloc, for processors that Rattle's kit has no object of it for.
- * capi/build compiles it unless the archive has that object. It is tested and not proved.
+ * meson.build compiles it for these. It is tested and not proved.
  */
 #include <stdint.h>
 #include <stdlib.h>
