@@ -5,7 +5,7 @@
 # make install    what is built, into PREFIX (and DESTDIR), with libraries in LIBDIR; make uninstall removes it
 # make tools      what the tests need from Debian, as root. CI is `CI=true make tools check` (.ci/run): a test that is skipped for want of
 #                 a tool then fails if apt has the tool
-# make dist       the files of a release, in out/release: ./release --help
+# make dist       the files of a release, in out/release: packaging/README.release says what they are
 SHELL = /bin/bash
 MAKEFLAGS += --no-print-directory
 .SHELLFLAGS = -o pipefail -c
@@ -19,7 +19,6 @@ PROGRAMS = bpfcanon bpfcanon_object
 COMMANDS = $(foreach it,$(PROGRAMS),crates/$(it)/out/$(it))
 ARCHIVE = crates/bpfcanon_c/out/libbpfcanon_c.a
 LIBRARY = out/prefix/include/bpfcanon.h
-VERSION := $(shell sed -n 's/^.define BPFCANON_VERSION "\(.*\)"$$/\1/p' capi/bpfcanon.h)
 PACKAGES = $(shell sed 's/^\#.*//; s/ .*//' tests/packages.txt)
 export SOURCE_DATE_EPOCH ?= $(shell git log -1 --format=%ct)
 export PYTHONDONTWRITEBYTECODE = 1
@@ -27,7 +26,7 @@ export RT_JOBS ?= $(WORKERS)
 $(shell mkdir -p out)
 
 .PHONY: all demo demo-proved check check-quick check-tests check-c check-release prove record release-objects lint tools install uninstall
-.PHONY: dist wheel deb clean FORCE
+.PHONY: dist clean FORCE
 all: $(COMMANDS) $(LIBRARY)
 
 # --- what Rattle builds: it knows itself what is new
@@ -62,7 +61,7 @@ check: | $(filter tools,$(MAKECMDGOALS))
 	@rm -f out/*.log out/seconds; status=0; for part in $(PARTS); do began=$$SECONDS; $(MAKE) $$part || status=$$?; \
 	echo "$$part: $$((SECONDS - began)) s" >> out/seconds; [ $$status = 0 ] || break; done; cat out/seconds; \
 	grep -shaE 'NOT REFUSED|BAD EDIT|NOT PROVED|tests FAILED|had not ended|^(rt: )?FAILED' out/rt_ci.log; \
-	grep -shaE '[0-9]+ (passed|failed)' out/quick.log out/rt_ci.log out/tests.log | sed 's/^=* //; s/ =*$$//' > out/summary; cat out/summary; exit $$status
+	grep -shaE '[0-9]+ (passed|failed|skipped)' out/quick.log out/rt_ci.log out/tests.log out/release.log | sed 's/^=* //; s/ =*$$//' > out/summary; cat out/summary; exit $$status
 
 check-quick: lint
 	$(PYTHON) -m pytest -q -m quick | tee out/quick.log
@@ -96,7 +95,7 @@ record:
 	for crate in $(PROGRAMS) bpfcanon_c; do capi/sources $$crate; done | cmp - out/sources
 	$(PYTHON) packaging/proved.py out/rt_ci.log out/archive.log out/objects.log > out/PROVED.txt || { rm out/PROVED.txt; exit 1; }
 check-release:
-	tests/release
+	$(PYTHON) -m pytest -q -m release --durations=5 | tee out/release.log
 
 # A package that this version of Debian doesn't have is left out.
 tools:
@@ -108,23 +107,11 @@ lint:
 	for it in $$(git ls-files -s | sed -n 's/^100755.*\t//p'); do case $$(head -1 $$it) in *bash*|*/sh) bash -n $$it || exit 1;; esac; done
 	! command -v gofmt > out/found || test -z "$$(gofmt -l bindings/go examples tests | tee /dev/stderr)"
 	! command -v rustfmt > out/found || rustfmt --edition 2021 --config-path bindings/rust --check $$(git ls-files 'bindings/rust/*.rs' 'examples/*.rs')
-	! command -v mypy > out/found || (cd bindings/python && mypy --cache-dir=$(CURDIR)/out/mypy)
+	! command -v mypy > out/found || { MYPYPATH=capi mypy --strict --cache-dir=out/mypy packaging/*.py && cd bindings/python && mypy --cache-dir=$(CURDIR)/out/mypy; }
 	! command -v codespell > out/found || codespell -q 3 -L crate README.md docs examples
 
 # --- a release
 dist:
-	./release
-WHEEL = out/wheel
-wheel: $(LIBRARY)
-	rm -rf $(WHEEL) && mkdir -p $(WHEEL) && cp -r bindings/python/. $(WHEEL) && mkdir $(WHEEL)/share
-	cp man/bpfcanon-review.1 completions/bash/bpfcanon-review completions/zsh/_bpfcanon-review $(WHEEL)/share
-	cp out/prefix/lib/libbpfcanon.so.$(VERSION) $(WHEEL)/bpfcanon/libbpfcanon.so.0
-	cp $(firstword $(wildcard LICENSE) packaging/NO-LICENSE) $(WHEEL)/LICENSE
-	cd $(WHEEL) && $(PYTHON) -m build -nw -C--global-option=bdist_wheel -C--global-option=--plat-name=manylinux2014_x86_64 -o ../dist
-deb:
-	rm -rf out/deb && mkdir -p out/dist && git archive --prefix=out/deb/tree/ HEAD | tar x
-	cp --parents $(COMMANDS) $(ARCHIVE) $(wildcard THIRD-PARTY PROVED.txt) out/deb/tree
-	cd out/deb/tree && PATH=/usr/sbin:/usr/bin:/sbin:/bin DEB_BUILD_OPTIONS="nocheck noautodbgsym" dpkg-buildpackage -b -us -uc
-	mv out/deb/*.deb out/dist
+	$$(tests/python_with build setuptools wheel || echo python3) packaging/dist.py
 clean:
 	rm -rf out

@@ -24,8 +24,6 @@ def pytest_addoption(parser):
     parser.addoption("--program", type=pathlib.Path, default=BUILT, help="the built command")
     parser.addoption("--object-program", type=pathlib.Path, default=OBJECTS_BUILT, help="the built command on object files")
     parser.addoption("--prefix", type=pathlib.Path, default=TOP / "out" / "prefix", help="where the C library is installed")
-    parser.addoption("--release", type=pathlib.Path, help="the folder of a release")
-    parser.addoption("--tree", type=pathlib.Path, default=TOP, help="the tree that it was made from")
     parser.addoption("--seed", default="1", help="of the changed object files")
     parser.addoption("--count", type=int, default=2_000, help="how many object files are changed")
 
@@ -40,8 +38,8 @@ def compares(function):
 
 def pytest_collection_modifyitems(items):
     for item in items:
-        used = {"program", "object_program", "prefix", "release"} & set(getattr(item, "fixturenames", ["program"]))
-        for fixture, mark in ("program", "command"), ("object_program", "command"), ("prefix", "library"), ("release", "release"):
+        used = {"program", "object_program", "prefix", "made"} & set(getattr(item, "fixturenames", ["program"]))
+        for fixture, mark in ("program", "command"), ("object_program", "command"), ("prefix", "library"), ("made", "release"):
             if fixture in used:
                 item.add_marker(mark)
         if not used and not any(item.iter_markers("slow")):

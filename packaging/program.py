@@ -1,5 +1,5 @@
 #!/usr/bin/env python3
-"""Proves the programs and compiles each to an object, which ./release links.
+"""Proves the programs and compiles each to an object, which packaging/dist.py links.
 
 usage: packaging/program.py [--keep]
 
@@ -7,6 +7,9 @@ The objects are crates/NAME/out/release/NAME.o; rt's own programs need the C lib
 same folder. With --keep an object with the hash of the sources as they are is kept.
 """
 
+from __future__ import annotations
+
+import argparse
 import os
 import pathlib
 import sys
@@ -15,14 +18,14 @@ import tempfile
 sys.dont_write_bytecode = True
 sys.path.insert(0, str(pathlib.Path(__file__).resolve().parent.parent / "capi"))
 from rattle import Failed, compile_crate, find_kit, hash_of_sources  # noqa: E402
-from tree import PROGRAMS, TOP  # noqa: E402
+from tree import PROGRAMS, TOP, Program  # noqa: E402
 
 
-def is_made_from(program, sources):
+def is_made_from(program: Program, sources: str) -> bool:
     return program.object.is_file() and program.hash.is_file() and program.hash.read_text() == sources
 
 
-def make(program, sources):
+def make(program: Program, sources: str) -> None:
     find_kit()
     target = program.object
     target.parent.mkdir(parents=True, exist_ok=True)
@@ -39,21 +42,17 @@ def make(program, sources):
     print(f"packaging/program.py: made {target.relative_to(TOP)}")
 
 
-def main():
-    words = sys.argv[1:]
-    if words not in ([], ["--keep"]):
-        print(__doc__.strip())
-        return 0 if words == ["--help"] else 2
+def main() -> int:
+    parser = argparse.ArgumentParser(description=(__doc__ or "").splitlines()[0])
+    parser.add_argument("--keep", action="store_true", help="keep an object that has the hash of its sources")
+    is_kept = parser.parse_args().keep
     try:
         for program in PROGRAMS:
             sources = hash_of_sources(program.crate)
-            if not (words and is_made_from(program, sources)):
+            if not (is_kept and is_made_from(program, sources)):
                 make(program, sources)
-    except Failed as reason:
+    except (Failed, OSError) as reason:
         print(f"packaging/program.py: {reason}", file=sys.stderr)
-        return 1
-    except OSError as error:
-        print(f"packaging/program.py: {error.filename}: {error.strerror}", file=sys.stderr)
         return 1
     return 0
 

@@ -9,7 +9,7 @@
     examples/     follow the pages of examples/, and try to deceive the loaders there
     judges/       compare canonical object files with what libbpf, cilium/ebpf, the kernel and other tools say of the originals
     objects/      object files changed with knowledge of ELF and BTF, which the judges use too, and what bpfcanon-review shows of them
-    released/     the parts of tests/release, which uses the files of a release
+    released/     make a release, and use its files from outside the tree
 """
 
 import pathlib

@@ -17,6 +17,8 @@ FILES = {
     "elftools": f"{MODULES}/elftools",
     "setuptools": f"{MODULES}/setuptools",
     "wheel": f"{MODULES}/wheel",
+    "python3-build": f"{MODULES}/build",
+    "libc-arm64": "/usr/aarch64-linux-gnu/include/stdlib.h",
     "libbpf": "/usr/include/bpf/btf.h",
     "libcrypto": "/usr/include/openssl/evp.h",
     "github.com/cilium/ebpf": f"{GOCODE}/src/github.com/cilium/ebpf",

@@ -37,7 +37,7 @@ PYTHON_TESTS = "bindings/python/tests"
 ELSEWHERE = {
     ("bindings/python/README.md", "python"): f"{PYTHON_TESTS}/test_package.py",
     ("bindings/rust/README.md", "rust"): "bindings/rust/src/lib.rs",
-    ("bindings/rust/README.md", "toml"): "tests/released/languages.sh",
+    ("bindings/rust/README.md", "toml"): "tests/released/test_languages.py",
     ("docs/LIBRARY.md", "c"): "tests/pages/test_object_examples.py",
     ("docs/LIBRARY.md", "go"): "tests/pages/test_object_examples.py",
     ("docs/LIBRARY.md", "python"): "tests/pages/test_object_examples.py",

@@ -110,6 +110,7 @@ def test_verdict():
         assert word.partition("=")[0] in explained, f"{word}: the page doesn't explain it"
 
 
+@pytest.mark.release
 @pytest.mark.skipif(not RECORD.exists(), reason="there is no out/PROVED.txt: make record")
 def test_record():
     """A verdict of the record has the words of the page, and the verdicts rest on the functions of C that the page lists."""
