@@ -15,6 +15,7 @@ MODULES, GOCODE, CRATES = "/usr/lib/python3/dist-packages", "/usr/share/gocode",
 FILES = {
     "python3-yaml": f"{MODULES}/yaml",
     "elftools": f"{MODULES}/elftools",
+    "distributed": f"{MODULES}/distributed",
     "setuptools": f"{MODULES}/setuptools",
     "wheel": f"{MODULES}/wheel",
     "python3-build": f"{MODULES}/build",

@@ -46,8 +46,9 @@ class Place:
         self.folder = folder
         for name in "examples", "recipes", "bindings/rust":
             shutil.copytree(TOP / name, folder / name, ignore=shutil.ignore_patterns("target", "Cargo.lock", "bazel-*"))
-        for path, target in {"bin/bpfcanon-object": program, "go/src/bpfcanon": TOP / "bindings" / "go"}.items():
-            (folder / path).parent.mkdir(parents=True)
+        links = {"bin/bpfcanon-object": program, "go/src/bpfcanon": TOP / "bindings" / "go", "testdata": TOP / "testdata"}
+        for path, target in links.items():
+            (folder / path).parent.mkdir(parents=True, exist_ok=True)
             (folder / path).symlink_to(target)
         (folder / "cargo").mkdir()
         (folder / "cargo" / "config.toml").write_text(CARGO)
@@ -56,7 +57,9 @@ class Place:
         self.settings |= {"GO111MODULE": "off", "GOENV": "off", "GOFLAGS": "", "CGO_ENABLED": "1", "GOPATH": f"{folder}/go:{GOCODE}"}
         self.settings |= {"GOCACHE": f"{folder}/go-cache", "TEST_TMPDIR": f"{folder}/bazel"}
         if prefix:
-            self.settings |= {"PKG_CONFIG_PATH": f"{prefix}/lib/pkgconfig", "LD_LIBRARY_PATH": f"{prefix}/lib"}
+            library = f"{prefix}/lib"
+            self.settings |= {"PKG_CONFIG_PATH": f"{library}/pkgconfig", "LD_LIBRARY_PATH": library}
+            self.settings |= {"BPFCANON_LIBRARY": f"{library}/libbpfcanon.so.0", "PYTHONPATH": f"{TOP}/bindings/python"}
 
     def run(self, *words: str | Path, within: str = ".") -> Done:
         folder = self.folder / within
