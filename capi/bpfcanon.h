@@ -55,7 +55,7 @@ extern "C" {
 
 /*
  * The version of this header, also as one number: 1,002,003 is 1.2.3. bpfcanon_version() returns
- * that of the library. docs/STABILITY.md says what a version may change.
+ * that of the library. docs/API.md says what a version may change.
  */
 #define BPFCANON_VERSION_MAJOR 0
 #define BPFCANON_VERSION_MINOR 1

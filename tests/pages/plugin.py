@@ -38,14 +38,9 @@ ELSEWHERE = {
     ("bindings/python/README.md", "python"): f"{PYTHON_TESTS}/test_package.py",
     ("bindings/rust/README.md", "rust"): "bindings/rust/src/lib.rs",
     ("bindings/rust/README.md", "toml"): "tests/released/test_languages.py",
-    ("docs/LIBRARY.md", "c"): "tests/pages/test_object_examples.py",
-    ("docs/LIBRARY.md", "go"): "tests/pages/test_object_examples.py",
-    ("docs/LIBRARY.md", "python"): "tests/pages/test_object_examples.py",
-    ("docs/LIBRARY.md", "rust"): "tests/pages/test_object_examples.py",
-    ("docs/LIBRARY.md", "text"): "tests/pages/test_pages.py",
     **{("docs/TRUST.md", language): "tests/pages/test_trust.py" for language in ("antt", "rattle", "text", "console")},
     ("testdata/README.md", "sh"): "tests/pages/test_examples.py",
-    ("docs/CHANGING.md", "text"): "docs/CHANGING.md",
+    ("docs/CONTRIBUTING.md", "text"): "docs/CONTRIBUTING.md",
     ("docs/FORMATS.md", "text"): "docs/FORMATS.md",
 }
 COMMENT = re.compile(r"<!-- (needs|file|go|given|stand-in|not run): (.*?) -->")

@@ -1,4 +1,4 @@
-"""Tries the rows of README.md's table that says why not something else, except the one about the kernel, which needs root."""
+"""Tries the rows of docs/COMPARED.md's table on other ways to equal object files, except the one about the kernel, which needs root."""
 
 import subprocess
 
@@ -32,9 +32,11 @@ COMMANDS = {
     "`bpftool btf dump file after.o format raw`": [f"{CLANG} -g -c pass.c -o after.o; bpftool btf dump file after.o format raw > out"],
     "the tag that the kernel gives a program": [],
 }
+
+
 def rows():
     """The rows of the table, by their first cells, without the head."""
-    part = (TOP / "README.md").read_text().partition("\n## Why not something else?\n")[2].partition("\n## ")[0]
+    part = (TOP / "docs" / "COMPARED.md").read_text().partition("\n## Instead of a canonical file\n")[2].partition("\n## ")[0]
     return dict(cells(line) for line in [it for it in part.splitlines() if it.startswith("|")][2:])
 
 

@@ -1,4 +1,4 @@
-"""Compares the table of docs/RECIPES.md on what a signature covers with object files that differ in the change of a row."""
+"""Compares the table of docs/GUIDE.md on what a signature covers with object files that differ in the change of a row."""
 
 import subprocess
 
@@ -46,7 +46,7 @@ ROWS = {
 
 def rows():
     """The rows of the table by their first cells."""
-    part = (TOP / "docs" / "RECIPES.md").read_text().partition("### What a signature covers\n")[2].partition("\n### ")[0]
+    part = (TOP / "docs" / "GUIDE.md").read_text().partition("## Signing and loading\n")[2].partition("\n## ")[0]
     lines = [cells(line) for line in part.splitlines() if line.startswith("|")]
     return {first: others for first, *others in lines[2:]}
 

@@ -1,4 +1,4 @@
-"""Compares README.md, the manual pages, the limits of docs/SCOPE.md and the C header with the sources and with each other: commands,
+"""Compares the manual pages, the limits of docs/SCOPE.md and the C header with the sources and with each other: commands,
 options, limits, statuses, the buffer sizes of calls, and the calls themselves.
 """
 
@@ -14,9 +14,8 @@ from tests import TOP
 from tests.commands import ALL_OPTIONS, COMMANDS, INSN_ENGINE, LIMITS, OPTIONS, constants
 from tests.command import SECONDS
 from tests.reference import btf_page
-from tests.reference.formats_page import cells, said
+from tests.reference.formats_page import said
 
-README = (TOP / "README.md").read_text()
 HEADER = (TOP / "capi" / "bpfcanon.h").read_text()
 PAGES = sorted(TOP.glob("man/*.[13]"))
 COMMAND = TOP / "crates" / "bpfcanon"
@@ -28,12 +27,6 @@ def number(value):
 
 
 # ---- the commands and their options
-
-
-def test_readme():
-    table = README.partition("| Command | Writes |\n")[2].partition("\n\n")[0]
-    commands = [name for line in table.splitlines() for name in re.findall(r"`([\w-]+)`", cells(line)[0])]
-    assert sorted(commands) == sorted(COMMANDS), f"the commands: they are {commands}"
 
 
 def statuses():
@@ -190,14 +183,14 @@ def calls_of(text):
 
 
 def test_library_page():
-    """The page of section 3 declares the calls of the header and shows the example of docs/LIBRARY.md."""
+    """The page of section 3 declares the calls of the header and shows the example of docs/API.md."""
     need("man")
     shown = shown_page(page_of(3)).stdout.decode()
     calls = calls_of(shown.partition("DESCRIPTION")[0])
     assert len(calls) > 20 and calls == calls_of(HEADER), f"the calls: they are {calls}"
-    example = re.search(r"^```c\n(#include.*?)^```$", (TOP / "docs" / "LIBRARY.md").read_text(), re.MULTILINE | re.DOTALL)[1]
+    example = re.search(r"^```c\n(#include.*?)^```$", (TOP / "docs" / "API.md").read_text(), re.MULTILINE | re.DOTALL)[1]
     has_example = " ".join(example.split()) in " ".join(shown.split())
-    assert has_example, "the example: it isn't that of docs/LIBRARY.md"
+    assert has_example, "the example: it isn't that of docs/API.md"
 
 
 @pytest.mark.parametrize("page", PAGES, ids=lambda it: it.name)
@@ -213,9 +206,3 @@ def test_page(page):
     others = [f"{other.stem}({other.suffix[1:]})" for other in PAGES if other != page]
     missing = [other for other in others if not re.search(rf"(?<![\w-]){re.escape(other)}", last)]
     assert not missing, f"{page.name}: SEE ALSO lacks {missing}"
-
-
-def test_library_example():
-    """docs/LIBRARY.md shows the example in Rattle that is run with the tests of the command."""
-    example = (COMMAND / "src" / "tests" / "library_example.rt").read_text()
-    assert f"```text\n{example}```\n" in (TOP / "docs" / "LIBRARY.md").read_text()

@@ -33,7 +33,7 @@ def expect_all(what, found, right, least):
 
 def test_library():
     sonames = found_on_pages(r"libbpfcanon\.so\.(\d+)\b")
-    expect_all("the soname's number", sonames, MAJOR, ["docs/STABILITY.md", "CHANGELOG.md", "bindings/python/README.md"])
+    expect_all("the soname's number", sonames, MAJOR, ["docs/API.md", "CHANGELOG.md", "bindings/python/README.md"])
     nodes = re.findall(r"^(BPFCANON_[\d.]+) \{$", EXPORTS, re.MULTILINE)
     symbols = found_on_pages(r"BPFCANON_\d+\.\d+")
     wrong = [it for it in symbols if it[1] not in nodes]
@@ -43,10 +43,10 @@ def test_library():
 
 
 def test_forms():
-    """The number of the canonical form, on STABILITY and where it is defined."""
-    page = joined(TOP / "docs" / "STABILITY.md")
+    """The number of the canonical form, on API and where it is defined."""
+    page = joined(TOP / "docs" / "API.md")
     formats = re.findall(r"\*\*The canonical form is form (\d+)\.\*\*", joined(TOP / "docs" / "FORMATS.md"))
-    said = re.findall(r"\| canonical form \| form (\d+) in all of (\d+)\.x", page)
+    said = re.findall(r"it is form (\d+) in all of (\d+)\.x", page)
     assert said == [(it, MAJOR) for it in formats] and said, f"it is {said}, and right is {formats} in {MAJOR}.x"
 
 
@@ -65,5 +65,5 @@ def test_languages():
             control = re.findall(r"^X-Python3-Version: >= (.*)$", (TOP / "debian/control").read_text(), re.MULTILINE)
             assert control == [right], f"debian/control: it has {control}"
         if language == "Rust":
-            needed = re.findall(r"rustc (\d[\d.]*\d) or later", joined(TOP / "docs" / "BUILDING.md"))
-            assert needed == [right], f"docs/BUILDING.md: it has {needed}"
+            needed = re.findall(r"rustc (\d[\d.]*\d) or later", joined(TOP / "docs" / "CONTRIBUTING.md"))
+            assert needed == [right], f"docs/CONTRIBUTING.md: it has {needed}"

@@ -1,7 +1,5 @@
-"""Readers of tables of docs/, and of the scripts in tools/."""
+"""Readers of tables of docs/."""
 
-import importlib.machinery
-import importlib.util
 import re
 
 from tests import TOP
@@ -11,14 +9,6 @@ CAUSES = TOP / "docs" / "causes.tsv"
 
 def cells(row):
     return [cell.strip() for cell in re.split(r"(?<!\\)\|", row)[1:-1]]
-
-
-def loaded(name):
-    """A script of tools/ as a module."""
-    loader = importlib.machinery.SourceFileLoader(name, str(TOP / "tools" / name))
-    module = importlib.util.module_from_spec(importlib.util.spec_from_loader(name, loader))
-    loader.exec_module(module)
-    return module
 
 
 def table():

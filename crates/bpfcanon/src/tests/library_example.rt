@@ -1,4 +1,4 @@
-//! The libraries as a program calls them. `docs/LIBRARY.md` shows this file.
+//! The libraries as a program calls them. `docs/API.md` names this file.
 
 use bpf_canon::{INSN_LIMIT, InsnFeed, Order, write_btf};
 use bpf_insn::InsnError;

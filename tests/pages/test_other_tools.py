@@ -1,10 +1,6 @@
-"""Checks what docs/INTEGRATIONS.md and docs/FORMATS.md say about other tools: the workflow for GitHub Actions, the notation of llvm-objdump,
-and the BTF of gcc 12.
-"""
+"""Checks what docs/FORMATS.md and docs/SCOPE.md say about other tools: the notation of llvm-objdump, and the BTF of gcc 12."""
 
-import json
 import re
-import shutil
 import subprocess
 
 import pytest
@@ -12,8 +8,6 @@ import pytest
 from tests import TOP
 from tests.command import SECONDS
 
-WORKFLOW = ".github/workflows/objects.yml"
-READ_YAML = ["/usr/bin/python3", "-c", "import json, sys, yaml; print(json.dumps(yaml.safe_load(sys.stdin)))"]
 # How LLVM 14 prints those instructions that it takes for others.
 BY_LLVM_14 = {"sdiv r1, r2": "r1 /= r2", "movsx8 r1, r2": "r1 = r2", "movsx8_32 r1, r2": "w1 = w2"}
 NOTATION = re.compile(r"^\| `(.*?)` \| `(.*?)` \|$", re.MULTILINE)
@@ -31,28 +25,6 @@ def run(words, folder, **how):
 def compiled(words, source, name, folder):
     (folder / "source.c").write_text(source)
     run([*words, "-c", "source.c", "-o", name], folder, check=True)
-
-
-@pytest.mark.needs("clang", "python3-yaml")
-def test_workflow(object_program, tmp_path):
-    """The commands of the workflow run as on GitHub, with a stand-in for the tests that the reader has."""
-    page = (TOP / "docs" / "INTEGRATIONS.md").read_text()
-    text = re.search(rf"^<!-- file: {WORKFLOW} -->\n```yaml\n(.*?)^```$", page, re.MULTILINE | re.DOTALL)[1]
-    workflow = json.loads(run(READ_YAML, tmp_path, input=text, check=True).stdout)
-    (tmp_path / "third_party").mkdir()
-    (tmp_path / "third_party" / "bpfcanon-object").symlink_to(object_program)
-    (tmp_path / "test_on_kernels").write_text('#!/bin/sh\necho "$*" >> calls\n')
-    (tmp_path / "test_on_kernels").chmod(0o755)
-    shutil.copy(TOP / "recipes" / "count.c", tmp_path)
-    steps = [step for job in workflow["jobs"].values() for step in job["steps"]]
-    assert workflow["defaults"]["run"]["shell"] == "bash"
-    for script in [step["run"] for step in steps if "run" in step]:
-        done = run(["bash", "--noprofile", "--norc", "-eo", "pipefail", "-c", script], tmp_path)
-        assert done.returncode == 0, script
-    assert (tmp_path / "calls").read_text() == "count.o\n"
-    cache = next(step["with"] for step in steps if step.get("uses", "").startswith("actions/cache@"))
-    names = [cache["path"], *re.findall(r"'(.*?)'", cache["key"])]
-    assert names and [name for name in names if not (tmp_path / name).is_file()] == []
 
 
 def objdump_lines(folder, tool, *flags):
