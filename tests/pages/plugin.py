@@ -184,7 +184,7 @@ class Block(pytest.Item):
         if self.language == "sh":
             self.compare(self.shell(["bash", "-n", "-c", self.text], stderr=subprocess.STDOUT).stdout, "")
             for name in re.findall(r"(?:^|[ ;(])(?:\./)?((?:[a-z_]+/)*[a-z_]+/?[a-z_]*)(?=[ \n;]|$)", self.text):
-                assert "/" not in name or name.startswith("path/to") or (TOP / name).exists(), f"there is no {name}"
+                assert "/" not in name or name.startswith(("path/to", "out/")) or (TOP / name).exists(), f"there is no {name}"
 
     def run_sh(self):
         done = self.shell(["bash", "-euo", "pipefail", "-c", f"{self.text}\npwd > '{self.parent.at}'"])
