@@ -12,7 +12,7 @@ import pytest
 
 from tests import TOP
 from tests.needs import need
-from tests.released.use import CANONICAL, COMMANDS, KEY_C, TYPES, lines_of, output
+from tests.released.use import CANON_C, CANONICAL_OBJECT, COMMANDS, OBJECT, lines_of, output
 
 # Tests that run the built commands: those of a release are other programs of the same sources.
 TESTS = [f"process/test_{it}.py" for it in ("streams", "vectors", "pipes")] + ["test_object_program.py", "pages/test_object_pages.py"]
@@ -25,7 +25,7 @@ C_TESTS = ["calls", "blocks", "threads", "vectors", "refused", "prefixes", "null
 GLIBC = [
     ("bpfcanon-*-x86_64-linux/lib/libbpfcanon.so", "README.md", "glibc {} or later"),
     ("bpfcanon-*-aarch64-linux/lib/libbpfcanon.so", "README.md", "and {} or later on ARM"),
-    (f"{TOP}/crates/bpfcanon/out/bpfcanon", "docs/BUILDING.md", "glibc {} or later"),
+    (f"{TOP}/crates/bpfcanon/out/bpfcanon", "docs/CONTRIBUTING.md", "glibc {} or later"),
 ]
 
 
@@ -44,16 +44,16 @@ class Used(NamedTuple):
 
 @pytest.fixture(scope="module", params=PROCESSORS)
 def used(request, unpacked, tmp_path_factory):
-    """The lines of the page build key.c where the files are: with the shared library, and with the static one."""
+    """The lines of the page build canon.c where the files are: with the shared library, and with the static one."""
     compiler, runner = PROCESSORS[request.param]
     need(*runner[:1])
     (folder,) = unpacked.glob(f"bpfcanon-*-{request.param}-linux")
-    (folder / "key.c").write_text(KEY_C)
+    (folder / "canon.c").write_text(CANON_C)
     tools = tmp_path_factory.mktemp("tools")
     (tools / "cc").symlink_to(shutil.which(compiler))
     for name, line in zip(("shared", "static"), (it for it in lines_of(folder / "README") if it.startswith("cc"))):
-        output("sh", "-euc", f"{line}mv key {name}", cwd=folder, env={"PATH": f"{tools}:{os.environ['PATH']}"})
-    programs = {folder / name: ([], TYPES, CANONICAL) for name in ("shared", "static")}
+        output("sh", "-euc", f"{line}mv canon {name}", cwd=folder, env={"PATH": f"{tools}:{os.environ['PATH']}"})
+    programs = {folder / name: ([], OBJECT, CANONICAL_OBJECT) for name in ("shared", "static")}
     return Used(folder, runner, programs if runner else programs | {folder / "bin" / name: row for name, row in COMMANDS.items()})
 
 

@@ -13,13 +13,13 @@ import pytest
 from tests import TOP
 from tests.needs import need
 from tests.released.conftest import SUITES
-from tests.released.use import CANONICAL, COMMANDS, KEY_C, OBJECT, TYPES, block_of, lines_of
+from tests.released.use import CANON_C, CANONICAL_OBJECT, COMMANDS, OBJECT, block_of, lines_of
 
 HOME = "home/some user"
 ENVIRONMENT = {"PATH": "/usr/local/sbin:/usr/local/bin:/usr/sbin:/usr/bin:/sbin:/bin", "LC_ALL": "C.UTF-8", "HOME": f"/{HOME}", "PIP_NO_INDEX": "1"}
 ROOT, USER, ANYBODY = 0, 1000, 65534
 PACKAGES = "bpfcanon libbpfcanon0 libbpfcanon-dev python3-bpfcanon"
-LINK = "flags=$(pkg-config --cflags --libs bpfcanon); eval cc key.c $flags -o shared; eval cc -static key.c $flags -o static"
+LINK = "flags=$(pkg-config --cflags --libs bpfcanon); eval cc canon.c $flags -o shared; eval cc -static canon.c $flags -o static"
 SCRIPT = shlex.quote("import sys; from bpfcanon.objects import key; print(key(sys.stdin.buffer.read()).hex(), end='  -\\n')")
 
 
@@ -28,7 +28,7 @@ class Chroot:
         self.root, self.page = root, release / "README"
         self.version = re.match(r"bpfcanon (.*)\n", self.page.read_text())[1]
         shutil.copytree(release, root / HOME / "release")
-        (root / HOME / "release" / "key.c").write_text(KEY_C)
+        (root / HOME / "release" / "canon.c").write_text(CANON_C)
         subprocess.run(["chown", "-R", f"{USER}:{USER}", root / HOME], check=True)
 
     def run(self, script, user=USER, given=None):
@@ -47,7 +47,7 @@ class Chroot:
         """Anybody gets the right answers of the commands, and the user those of programs over the library, shared and static."""
         self.run(LINK)
         answers = [self.run(shlex.join([name, *words]), ANYBODY, given) == right for name, (words, given, right) in COMMANDS.items()]
-        return all(answers) and self.run("./shared", given=TYPES) == self.run("./static", given=TYPES) == CANONICAL
+        return all(answers) and self.run("./shared", given=OBJECT) == self.run("./static", given=OBJECT) == CANONICAL_OBJECT
 
     def is_usable(self, python, folder=""):
         """The package gives the right key, and its command has the version of the package and that of the library."""
@@ -83,7 +83,7 @@ def test_sources(chroot):
     """The library in the user's own folder, without Rattle."""
     chroot.follow(f"bpfcanon-source-{chroot.version}.tar.xz")
     chroot.run(f'export PKG_CONFIG_PATH="$HOME/.local/lib/pkgconfig"; {LINK}')
-    assert chroot.run('LD_LIBRARY_PATH="$HOME/.local/lib" ./shared', given=TYPES) == chroot.run("./static", given=TYPES) == CANONICAL
+    assert chroot.run('LD_LIBRARY_PATH="$HOME/.local/lib" ./shared', given=OBJECT) == chroot.run("./static", given=OBJECT) == CANONICAL_OBJECT
 
 
 def test_wheel(chroot):

@@ -6,7 +6,7 @@ import shutil
 import subprocess
 
 from tests import TOP
-from tests.reference import btf_reference
+from tests.reference import btf_reference, object_reference
 
 RECORD = "out/PROVED.txt"
 # What make check builds for a release.
@@ -17,6 +17,7 @@ DATA = TOP / "testdata"
 TYPES = DATA / "flow_table.big.btf"
 CANONICAL = btf_reference.canonical(TYPES.read_bytes())
 OBJECT = DATA / "objects" / "pass.little.debug.o"
+CANONICAL_OBJECT = object_reference.canonical(OBJECT.read_bytes())
 KEY = re.search(rf"^object\t{OBJECT.name}\t(\w+)", (DATA / "objects" / "objects.tsv").read_text(), re.MULTILINE)[1]
 # The commands with words, and what they print of a file.
 COMMANDS = {
@@ -51,5 +52,5 @@ def block_of(page, language, text=""):
     return next(it for it in re.findall(rf"^```{language}\n(.*?)^```$", page.read_text(), re.MULTILINE | re.DOTALL) if text in it)
 
 
-# Writes the canonical bytes of types.
-KEY_C = block_of(TOP / "docs" / "LIBRARY.md", "c", "int main")
+# Writes the canonical file of an object.
+CANON_C = block_of(TOP / "docs" / "API.md", "c", "int main")
