@@ -91,9 +91,9 @@ fn distinct_file<A: Allocator + Copy>(
         return Ok(None);
     };
     let mut out = Vec::new(alloc);
-    push_header(&mut out, Order::Big, types_len, names.table_len())?;
+    push_header(&mut out, Order::Big, types_len, names.table().len() as u32)?;
     push_types(&mut out, Order::Big, &names, &sections)?;
-    names.push_table(&mut out)?;
+    out.extend_from_slice(names.table())?;
     Ok(Some(out))
 }
 

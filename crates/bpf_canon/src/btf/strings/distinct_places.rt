@@ -7,7 +7,7 @@
 //! the shorter one in common. They may also need a table of 10^13 bytes, so it ends with the first
 //! string that doesn't fit within the limit.
 
-ghost use Rattle.std.specs.Prelude.{◌≡◌, ◌<◌, ◌≤◌, ◌^◌, ◌++◌, length, map, IfOk, OnOk};
+ghost use Rattle.std.specs.Prelude.{◌≡◌, ◌<◌, ◌≤◌, ◌^◌, length, map, IfOk};
 ghost use Rattle.std.specs.Prelude.{◌↔◌, IfSome, IsSome, MatchOption};
 ghost use Rattle.std.specs.{List.Contains};
 ghost use Rattle.btf_raw.specs.Header.{HasNulEnds};
@@ -168,23 +168,11 @@ impl<A: Allocator> DistinctPlaces<'_, A> {
         self.places[self.used.number(off as usize)]
     }
 
-    /// The length of the table in bytes.
-    pub fn table_len(&self) -> u32
-        ensures { result ≡ length (distinct_table (placed_texts self.now)) }
+    /// The table: NUL, then each distinct name with its NUL.
+    pub fn table(&self) -> &[u8]
+        ensures value { result.now ≡ distinct_table (placed_texts self.now) }
+        ensures short { length result.now < 2 ^ 32 }
     {
-        self.table.len() as u32
-    }
-
-    /// Appends the table: NUL, then each distinct name with its NUL.
-    ///
-    /// # Errors
-    ///
-    /// `AllocError` if an allocation failed.
-    pub fn push_table<B: Allocator>(&self, out: &mut Vec<u8, B>) -> Result<(), AllocError>
-        ensures { OnOk result (out.new.items
-            ≡ out.old.items ++ distinct_table (placed_texts self.now)) }
-    {
-        out.extend_from_slice(&self.table)?;
-        Ok(())
+        &self.table
     }
 }
