@@ -5,7 +5,7 @@ use Rattle.std.specs.List.{flat_map}
 use Rattle.bpf_words.specs.declared.Order.{Order}
 use Rattle.bpf_elf.specs.{ElfRules.IsElf, Header.FILE_LIMIT, Header.SHN_LORESERVE, Kinds.SHT_SYMTAB, Kinds.SHT_STRTAB, Numbers.order_of, Numbers.flags_of}
 use Rattle.bpf_elf.specs.Symbols.{symbol_count, is_kept_symbol, is_local, st_info}
-use Rattle.bpf_canon.specs.btf.strings.NamesByPlace.{NamesByPlace}
+use Rattle.bpf_canon.specs.btf.strings.{NamesByPlace.NamesByPlace, NamesByPlace.placed_texts, DistinctNames.distinct_table}
 use Rattle.std.specs.Borrow.{Bor}
 use Rattle.std.proofs.lemmas.Bool.Decides.{nat_tests}
 use Rattle.std.proofs.lemmas.List.{map-append, length-map, get_or-append-add}
@@ -137,18 +137,18 @@ as_with b types extension = refl
 
 pub sections_same : {A : Type 0} (b : List ℕ) (types extension : Option (List ℕ)) (names : NamesByPlace) (p : Parts A) → IsElf b
     → HasOwnStrings b types extension names → AreParts b names p
-    → all_sections b (placed names) types extension p.symbols.items p.strings.items ≡ sections_with b types extension
+    → all_sections b (placed names) types extension p.symbols.items (distinct_table (placed_texts names)) ≡ sections_with b types extension
 sections_same b types extension names p h has are =
+    let table = distinct_table (placed_texts names) in
     let place = place_of (strings_with b types extension) in
     let places = places_are b names types extension h has in
     let symbols = are.symbols ∙ ap (λ (at : List ℕ → ℕ). flat_map (symbol_bytes (order_of b) at) (kept_symbols b)) places in
-    let strings = are.strings ∙ table_is b names types extension h has in
-    as_all b types extension (placed names) p.symbols.items p.strings.items
-    ∙ ap (λ (at : List ℕ → ℕ). composed b types extension at (symtab_of b types extension) p.symbols.items p.strings.items (globals_from b (symbol_count b))) places
-    ∙ ap (λ (n : ℕ). composed b types extension place n p.symbols.items p.strings.items (globals_from b (symbol_count b))) (symtab_same b types extension)
-    ∙ ap (λ (x : List ℕ). composed b types extension place (symtab_with b types extension) x p.strings.items (globals_from b (symbol_count b))) symbols
+    as_all b types extension (placed names) p.symbols.items table
+    ∙ ap (λ (at : List ℕ → ℕ). composed b types extension at (symtab_of b types extension) p.symbols.items table (globals_from b (symbol_count b))) places
+    ∙ ap (λ (n : ℕ). composed b types extension place n p.symbols.items table (globals_from b (symbol_count b))) (symtab_same b types extension)
+    ∙ ap (λ (x : List ℕ). composed b types extension place (symtab_with b types extension) x table (globals_from b (symbol_count b))) symbols
     ∙ ap (λ (x : List ℕ). composed b types extension place (symtab_with b types extension)
-    (flat_map (symbol_bytes (order_of b) place) (kept_symbols b)) x (globals_from b (symbol_count b))) strings
+    (flat_map (symbol_bytes (order_of b) place) (kept_symbols b)) x (globals_from b (symbol_count b))) (table_is b names types extension h has)
     ∙ ap (λ (n : ℕ). composed b types extension place (symtab_with b types extension)
     (flat_map (symbol_bytes (order_of b) place) (kept_symbols b)) (strings_of (strings_with b types extension)) n) (sym (first_global_is b (symbol_count b)))
     ∙ as_with b types extension

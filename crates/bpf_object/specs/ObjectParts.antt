@@ -2,7 +2,7 @@
 -- The contents that are written anew.
 use Rattle.std.specs.Prelude.{◌≡◌, ℕ, ◌+◌, ◌*◌, ◌&&◌, nat_lt, nat_le, slice_index_or, Bool, Option, is_some, List, [], ◌∷◌, ◌++◌, length, codes, if◌then◌else◌}
 use Rattle.bpf_elf.specs.{Numbers.count, Symbols.symbol_count}
-use Rattle.bpf_canon.specs.btf.strings.{NamesByPlace.NamesByPlace, NamesByPlace.placed_texts, DistinctNames.distinct_table}
+use Rattle.bpf_canon.specs.btf.strings.NamesByPlace.{NamesByPlace}
 use Rattle.bpf_object.specs.declared.object_writer.Parts.{Parts}
 use Rattle.bpf_object.specs.Kept.{is_kept_section, kept_sections, numbers}
 use Rattle.bpf_object.specs.{FileWith.section_with, SectionRows.written_kept}
@@ -20,7 +20,6 @@ pub record AreParts {A : Type 0} (b : List ℕ) (names : NamesByPlace) (p : Part
   pub numbers : p.numbers.items ≡ numbers (is_kept_section b) (count b)
   pub rows : p.rows.items ≡ tables_bytes b (count b)
   pub symbols : p.symbols.items ≡ symbols_bytes b (placed names) (symbol_count b)
-  pub strings : p.strings.items ≡ distinct_table (placed_texts names)
 
 -- how many sections that makes
 abbrev pub bool_number : Bool → ℕ

@@ -6,7 +6,8 @@ ghost use Rattle.bpf_elf.specs.ElfRules.{IsElf};
 ghost use Rattle.bpf_elf.specs.Header.{FILE_LIMIT as spec_limit, SHN_LORESERVE as spec_reserved};
 ghost use Rattle.bpf_elf.specs.Numbers.{count, order_of, flags_of};
 ghost use Rattle.bpf_elf.specs.Symbols.{symbol_count};
-ghost use Rattle.bpf_canon.specs.btf.strings.FirstUses.{noted_all};
+ghost use Rattle.bpf_canon.specs.btf.strings.{FirstUses.noted_all, NamesByPlace.placed_texts};
+ghost use Rattle.bpf_canon.specs.btf.strings.DistinctNames.{distinct_table};
 ghost use Rattle.bpf_object.specs.Canonical.{own_section as spec_own};
 ghost use Rattle.bpf_object.specs.File.{content_place};
 ghost use Rattle.bpf_object.specs.FileStrings as strings;
@@ -40,7 +41,7 @@ const SHT_STRTAB: u32 = 3;
 /// SHN_LORESERVE: the first index that isn't one of a section.
 const SHN_LORESERVE: usize = 0xff00;
 
-/// The contents that are written anew, but for .BTF and .BTF.ext.
+/// The contents that are written anew, but for .BTF, .BTF.ext and the string table.
 #[derive(Drop)]
 pub(crate) struct Parts<A: Allocator> {
     /// For each section, how many kept ones precede it.
@@ -49,8 +50,6 @@ pub(crate) struct Parts<A: Allocator> {
     rows: Vec<u8, A>,
     /// The symbols.
     symbols: Vec<u8, A>,
-    /// The string table.
-    strings: Vec<u8, A>,
 }
 
 /// The rows of all tables of relocations.
@@ -76,13 +75,10 @@ fn parts_of<A: Allocator + Copy>(
     let rows = table_rows(alloc, elf)?;
     let mut symbols = Vec::new(alloc);
     push_symbols(&mut symbols, names, elf, &numbers)?;
-    let mut strings = Vec::new(alloc);
-    names.push_table(&mut strings)?;
     Ok(Parts {
         numbers,
         rows,
         symbols,
-        strings,
     })
 }
 
@@ -153,7 +149,7 @@ fn symtab_number<A: Allocator>(
 /// Appends .symtab and .strtab.
 fn push_last<'a, A: Allocator, B: Allocator, C: Allocator>(
     sections: &mut Vec<WrittenSection<'a>, A>,
-    names: &DistinctPlaces<'_, B>,
+    names: &'a DistinctPlaces<'_, B>,
     elf: &Elf<'_>,
     parts: &'a Parts<C>,
     symtab: u32,
@@ -163,13 +159,13 @@ fn push_last<'a, A: Allocator, B: Allocator, C: Allocator>(
     ensures { OnOk result (map section_value sections.new.items
         ≡ map section_value sections.old.items
         ++ last_sections elf.now (placed names.now) symtab parts.now.symbols.items
-        parts.now.strings.items) }
+        (distinct_table (placed_texts names.now))) }
 {
     let symbols = parts.symbols.as_slice();
     let name = own_place(names, elf, OwnSection::Symbols);
     let first = first_global(elf);
     sections.push(own_section(name, SHT_SYMTAB, symbols, symtab + 1, first, 8, 24))?;
-    let strings = parts.strings.as_slice();
+    let strings = names.table();
     let name = own_place(names, elf, OwnSection::Strings);
     sections.push(own_section(name, SHT_STRTAB, strings, 0, 0, 1, 0))?;
     Ok(())
@@ -178,7 +174,7 @@ fn push_last<'a, A: Allocator, B: Allocator, C: Allocator>(
 /// Appends all sections.
 fn push_all<'a, A: Allocator, B: Allocator, C: Allocator>(
     sections: &mut Vec<WrittenSection<'a>, A>,
-    names: &DistinctPlaces<'_, B>,
+    names: &'a DistinctPlaces<'_, B>,
     elf: &'a Elf<'_>,
     parts: &'a Parts<C>,
     types: Option<&'a [u8]>,
@@ -191,7 +187,7 @@ fn push_all<'a, A: Allocator, B: Allocator, C: Allocator>(
         ≡ map section_value sections.old.items
         ++ all_sections elf.now (placed names.now) (content_of types.entry)
         (content_of extension.entry)
-        parts.now.symbols.items parts.now.strings.items) }
+        parts.now.symbols.items (distinct_table (placed_texts names.now))) }
 {
     let symtab = symtab_number(elf, parts, types.is_some(), extension.is_some());
     let rows = parts.rows.as_slice();
@@ -267,7 +263,7 @@ fn borrowed<'x>(content: &'x Option<&[u8]>) -> Option<&'x [u8]>
 fn write_parts<'a, A: Allocator + Copy>(
     alloc: A,
     elf: &'a Elf<'_>,
-    names: &DistinctPlaces<'_, A>,
+    names: &'a DistinctPlaces<'_, A>,
     parts: &'a Parts<A>,
     types: Option<&'a [u8]>,
     extension: Option<&'a [u8]>,

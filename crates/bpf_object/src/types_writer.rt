@@ -89,11 +89,11 @@ fn find_names<'t, A: Allocator + Copy>(
 }
 
 /// Whether records and a string table of these lengths have at most 15 MiB together with a header.
-fn is_short(types_len: usize, table_len: u32) -> bool
+fn is_short(types_len: usize, table_len: usize) -> bool
     ensures { result ≡ nat_le (24 + types_len + table_len) 15728640 }
 {
     let room = TYPES_LIMIT - 24;
-    types_len <= room && table_len as usize <= room - types_len
+    types_len <= room && table_len <= room - types_len
 }
 
 /// The section .BTF with the names at these places, or `None` if it has more than 15 MiB.
@@ -110,14 +110,14 @@ fn write_btf<A: Allocator + Copy>(
         (λ out. (length whole ≤ 15728640) × (out.items ≡ whole))) }
 {
     let types_len = sections.types().len();
-    let table_len = names.table_len();
-    if !is_short(types_len, table_len) {
+    let table = names.table();
+    if !is_short(types_len, table.len()) {
         return Ok(None);
     }
     let mut out = Vec::new(alloc);
-    push_header(&mut out, order, types_len as u32, table_len)?;
+    push_header(&mut out, order, types_len as u32, table.len() as u32)?;
     push_types(&mut out, order, names, sections)?;
-    names.push_table(&mut out)?;
+    out.extend_from_slice(table)?;
     Ok(Some(out))
 }
 

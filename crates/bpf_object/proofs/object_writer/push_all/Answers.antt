@@ -1,6 +1,7 @@
 use Rattle.std.proofs.Common.{◌≡◌, ◌++◌, ℕ, map, subst}
 use Rattle.std.specs.Prelude.{codes}
 use Rattle.bpf_elf.specs.Numbers.{count}
+use Rattle.bpf_canon.specs.btf.strings.{NamesByPlace.placed_texts, DistinctNames.distinct_table}
 use Rattle.bpf_object.specs.{FileWith.section_with, NotedStrings.placed, ObjectParts.last_sections, SectionRows.written_kept, Written.content_of}
 use Rattle.bpf_object.specs.WrittenSections.{section_value}
 use Rattle.bpf_object.proofs.FileStringLemmas.{types_noted, extension_noted}
@@ -23,9 +24,8 @@ returns g c =
     let extension = content_of c.args.extension in
     let old = map section_value c.args.sections.now.items in
     let new = map section_value c.push_last.new.sections.items in
-    let parts = c.args.parts.now in
     let symtab = symtab_is b c.args.types c.args.extension _ _ _ c.is_some.ensures c.is_some-2.ensures c.symtab_number-symtab.ensures.value in
     subst (λ (n : ℕ). new ≡ old ++ (written_kept b place n (count b)
     ++ ((section_with place (codes ".BTF") types ++ section_with place (codes ".BTF.ext") extension)
-    ++ last_sections b place n parts.symbols.items parts.strings.items))) symtab
+    ++ last_sections b place n c.args.parts.now.symbols.items (distinct_table (placed_texts c.args.names.now))))) symtab
     (four_pushed old _ _ _ new _ _ _ _ c.in_ok-push_kept.ensures c.in_ok-push_types.ensures c.in_ok-push_types-2.ensures c.in_ok-push_last.ensures)

@@ -12,5 +12,5 @@ own_place-name-requires-2-clause-noted g c = (own_noted c.args.elf.now c.args.na
 pub returns : goal.returns
 returns g c =
     let symbols = own_same _ _ _ _ _ _ _ _ _ _ _ c.own_section.ensures c.own_place-name.ensures c.as_slice-symbols.ensures.value c.first_global-first.ensures in
-    let strings = own_same _ _ _ _ _ _ _ _ _ _ _ c.own_section-2.ensures c.own_place-name-2.ensures c.as_slice-strings.ensures.value refl in
+    let strings = own_same _ _ _ _ _ _ _ _ _ _ _ c.own_section-2.ensures c.own_place-name-2.ensures c.table-strings.ensures.value refl in
     two_pushed _ _ _ _ _ _ _ c.in_ok-push.ensures.items c.in_ok-push-2.ensures.items symbols strings

@@ -1,4 +1,5 @@
 use Rattle.std.proofs.Common.{◌++◌, List, ap, map, ◌∙◌}
+use Rattle.bpf_canon.specs.btf.strings.{NamesByPlace.placed_texts, DistinctNames.distinct_table}
 use Rattle.bpf_object.specs.declared.file.WrittenSection.{WrittenSection}
 use Rattle.bpf_object.specs.{NotedStrings.placed, ObjectParts.all_sections, Written.content_of}
 use Rattle.bpf_object.specs.WrittenSections.{section_value}
@@ -11,7 +12,7 @@ returns g c =
     let types = content_of c.args.types in
     let extension = content_of c.args.extension in
     let parts = c.args.parts.now in
-    let all = all_sections b (placed c.args.names.now) types extension parts.symbols.items parts.strings.items in
+    let all = all_sections b (placed c.args.names.now) types extension parts.symbols.items (distinct_table (placed_texts c.args.names.now)) in
     let same =
     ap (map section_value) c.deref.ensures.value ∙ c.in_ok-push_all.ensures
     ∙ ap (λ (l : List WrittenSection). map section_value l ++ all) c.new-sections.ensures.items
