@@ -63,3 +63,4 @@ pub mod DenotesOne
 pub mod CanonDenotes
 pub mod AcceptedLemmas
 pub mod LineLemmas
+pub mod RecordWindows

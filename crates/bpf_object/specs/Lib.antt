@@ -26,4 +26,5 @@ pub mod ObjectFaults
 pub mod SameObjects
 pub mod Laws
 pub mod SourceLines
+pub mod SectionRecords
 pub mod AcceptedFacts
