@@ -15,12 +15,12 @@ from tests.needs import need
 from tests.released.use import CANON_C, CANONICAL_OBJECT, COMMANDS, OBJECT, lines_of, output
 
 # Tests that run the built commands: those of a release are other programs of the same sources.
-TESTS = [f"process/test_{it}.py" for it in ("streams", "vectors", "pipes")] + ["test_object_program.py", "pages/test_object_pages.py"]
+TESTS = ["process/test_streams.py", "process/test_vectors.py", "test_object_program.py"]
 # A processor that has x86-64-v2 and nothing later, and some that lack a part of it.
 LEAST = "Nehalem"
 OLD = ["qemu64,-sse3,-cx16,-svm", *(f"{LEAST},-{it}" for it in ("popcnt", "sse3", "ssse3", "cx16", "sse4.1", "sse4.2"))]
 SENTENCE = b"bpfcanon: needs an x86-64-v2 processor (SSE4.2 and POPCNT)\n"
-C_TESTS = ["calls", "blocks", "threads", "vectors", "refused", "prefixes", "null_with_length"]
+C_TESTS = ["calls", "blocks", "threads", "vectors", "null_with_length"]
 # What needs glibc, the page that says which, and the words around it.
 GLIBC = [
     ("bpfcanon-*-x86_64-linux/lib/libbpfcanon.so", "README.md", "glibc {} or later"),
