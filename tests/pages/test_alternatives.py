@@ -19,7 +19,7 @@ COMMANDS = {
         f'{CLANG} -g -ffile-prefix-map="$PWD"=. -c pass.c -o object.o; {TYPES}',
         f"{CLANG} -g -fdebug-compilation-dir=. -c pass.c -o object.o; {TYPES}",
     ],
-    '`-ffile-prefix-map="$PWD"=/src`, and there is no `/src`': [f"{HIDDEN}; {TYPES}"],
+    '`-ffile-prefix-map="$PWD"=/src`, a path that doesn\'t exist': [f"{HIDDEN}; {TYPES}"],
     "no `-g`": [f"{CLANG} -c pass.c -o out"],
     "`clang -E -P`, and compile what it prints": [
         f"clang -E -P pass.c | {CLANG} -g -x c -c -o out -",
