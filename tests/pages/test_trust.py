@@ -54,7 +54,7 @@ def verdict():
 
 def functions_of_c():
     """The functions that the table lists."""
-    return sorted(code for row in rows("Function of C") for code in CODE.findall(row[0]))
+    return sorted(code for row in rows("C function") for code in CODE.findall(row[0]))
 
 
 def test_verdict():
