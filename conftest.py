@@ -38,8 +38,8 @@ def compares(function):
 
 def pytest_collection_modifyitems(items):
     for item in items:
-        used = {"program", "object_program", "prefix", "made"} & set(getattr(item, "fixturenames", ["program"]))
-        for fixture, mark in ("program", "command"), ("object_program", "command"), ("prefix", "library"), ("made", "release"):
+        used = {"program", "object_program", "prefix", "release_folder"} & set(getattr(item, "fixturenames", ["program"]))
+        for fixture, mark in ("program", "command"), ("object_program", "command"), ("prefix", "library"), ("release_folder", "release"):
             if fixture in used:
                 item.add_marker(mark)
         if not used and not any(item.iter_markers("slow")):

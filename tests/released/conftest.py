@@ -48,7 +48,7 @@ def chroots(tmp_path_factory):
 
 
 @pytest.fixture(scope="session")
-def made(tmp_path_factory):
+def release_folder(tmp_path_factory):
     """The folder of the release. Without what it takes the tests are skipped; with CI=true they fail."""
     out = tmp_path_factory.mktemp("made") / "release"
     done = subprocess.run(dist(TOP, out), stderr=subprocess.PIPE, text=True)
@@ -59,7 +59,7 @@ def made(tmp_path_factory):
 
 
 @pytest.fixture(scope="session")
-def beside(made, tmp_path_factory):
+def beside(release_folder, tmp_path_factory):
     """The release of another clone in other surroundings, and that of one with a licence."""
     folder = tmp_path_factory.mktemp("another place", numbered=False)
     again, licensed = clone(folder / "again"), clone(folder / "licensed")
@@ -82,10 +82,10 @@ def all_at_once(request, beside):
 
 
 @pytest.fixture(scope="session")
-def unpacked(made, tmp_path_factory):
+def unpacked(release_folder, tmp_path_factory):
     """The folder in which the archives are unpacked, at a path with a blank."""
     folder = tmp_path_factory.mktemp("where they are")
-    for archive in made.glob("*.tar.xz"):
+    for archive in release_folder.glob("*.tar.xz"):
         with tarfile.open(archive) as tar:
             tar.extractall(folder)
     return folder

@@ -77,9 +77,9 @@ class Release:
 
 
 @pytest.fixture(scope="module", params=["as it is", "licensed"])
-def release(request, made, beside):
+def release(request, release_folder, beside):
     if request.param == "as it is":
-        return Release(made, TOP)
+        return Release(release_folder, TOP)
     licensed = beside["licensed"]
     assert licensed.process.wait() == 0
     return Release(licensed.folder, licensed.tree)

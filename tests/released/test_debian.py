@@ -62,11 +62,11 @@ class Chroot:
 
 
 @pytest.fixture(scope="module", params=SUITES)
-def chroot(request, chroots, made):
+def chroot(request, chroots, release_folder):
     root, making = chroots[request.param]
     if making.wait() != 0:
         pytest.skip(f"the mirror has no {request.param}")
-    yield Chroot(root, made)
+    yield Chroot(root, release_folder)
     shutil.rmtree(root)
 
 
@@ -99,8 +99,8 @@ def test_archive(chroot):
     assert chroot.run("find /usr/local ! -readable") == b""
 
 
-def test_lintian(made):
+def test_lintian(release_folder):
     need("lintian")
     how = ["lintian", "--tag-display-limit", "0", "--suppress-tags", "initial-upload-closes-no-bugs"]
-    said = subprocess.run([*how, *made.glob("*.deb")], stdout=subprocess.PIPE, stderr=subprocess.STDOUT, text=True).stdout
+    said = subprocess.run([*how, *release_folder.glob("*.deb")], stdout=subprocess.PIPE, stderr=subprocess.STDOUT, text=True).stdout
     assert re.findall("^[EW]:.*", said, re.MULTILINE) == []

@@ -29,9 +29,9 @@ OFF |= {"CARGO_NET_OFFLINE": "true", "LD_LIBRARY_PATH": "", "RUSTFLAGS": "", "PK
 
 
 @pytest.fixture
-def project(made, tmp_path):
+def project(release_folder, tmp_path):
     """A folder with the files of the release."""
-    return shutil.copytree(made, tmp_path / "two words")
+    return shutil.copytree(release_folder, tmp_path / "two words")
 
 
 def page(language):

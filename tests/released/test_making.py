@@ -14,20 +14,20 @@ REFUSED |= {it: "made from other sources; packaging/program.py makes it again" f
 REFUSED |= {"README.md": "README.md is not as it was committed", RECORD: "the sources are not those that make check passed; run it again"}
 
 
-def test_same_bytes(made, beside):
+def test_same_bytes(release_folder, beside):
     assert beside["again"].process.wait() == 0
-    again, right = ({it.name: it.read_bytes() for it in folder.iterdir()} for folder in (beside["again"].folder, made))
+    again, right = ({it.name: it.read_bytes() for it in folder.iterdir()} for folder in (beside["again"].folder, release_folder))
     assert again.keys() == right.keys() and [name for name in right if again[name] != right[name]] == []
 
 
-def test_sums(made):
-    assert output("sha256sum", "-c", "--quiet", "SHA256SUMS", cwd=made) == b""
-    listed = [it.split()[1] for it in (made / "SHA256SUMS").read_text().splitlines()]
-    assert listed == sorted(it.name for it in made.iterdir() if it.name != "SHA256SUMS")
+def test_sums(release_folder):
+    assert output("sha256sum", "-c", "--quiet", "SHA256SUMS", cwd=release_folder) == b""
+    listed = [it.split()[1] for it in (release_folder / "SHA256SUMS").read_text().splitlines()]
+    assert listed == sorted(it.name for it in release_folder.iterdir() if it.name != "SHA256SUMS")
 
 
 @pytest.fixture
-def tree(made, tmp_path):
+def tree(release_folder, tmp_path):
     """A clone with what is built, and a record of it."""
     tree = clone(tmp_path / "a tree")
     (tree / "out").mkdir(exist_ok=True)
