@@ -1,6 +1,6 @@
 -- Lemmas on compared BTF files.
 pub mod ComparedFiles
-pub mod CanonicalSpells
+pub mod CanonicalEncodes
 pub mod CanonicalFiles
 pub mod WorkedBtf
 pub mod HostLaws

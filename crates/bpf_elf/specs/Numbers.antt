@@ -3,7 +3,7 @@
 use Rattle.std.specs.Prelude.{ℕ, ◌+◌, ◌*◌, ◌^◌, ◌==◌, List, if◌then◌else◌, slice_index}
 use Rattle.bpf_words.specs.{declared.Order.Order, declared.Order.TheVariants.Little, declared.Order.TheVariants.Big, Words.word16_at, Words.word32_at}
 
--- the number that the 8 bytes at an offset spell
+-- the number that the 8 bytes at an offset encode
 abbrev pub word64_at : Order → List ℕ → ℕ → ℕ
 word64_at Little b i = word32_at Little b i + 2 ^ 32 * word32_at Little b (i + 4)
 word64_at Big b i = word32_at Big b (i + 4) + 2 ^ 32 * word32_at Big b i

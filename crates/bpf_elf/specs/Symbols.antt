@@ -3,7 +3,7 @@ use Rattle.std.specs.Prelude.{ℕ, ◌+◌, ◌*◌, ◌/◌, ◌%◌, ◌==◌,
 use Rattle.bpf_elf.specs.declared.kinds.Kind.TheVariants.{Data, Symbols}
 use Rattle.bpf_elf.specs.declared.fault.ElfCause.TheVariants as cause
 use Rattle.bpf_elf.specs.Rules.{ElfRule, rule}
-use Rattle.bpf_elf.specs.Numbers.{half, word, long, count, place, offset, size, link, entry_size}
+use Rattle.bpf_elf.specs.Numbers.{half, word, long, count, names, place, offset, size, link, entry_size}
 use Rattle.bpf_elf.specs.Names.{string_at}
 use Rattle.bpf_elf.specs.Kinds.{is_kind}
 use Rattle.bpf_elf.specs.Sections.{content, kind, section_of, is_string_table, is_zero_at}
@@ -40,6 +40,10 @@ symbol_place b j = offset b (symbols b) + 24 * j
 -- the bytes with the names of the symbols
 abbrev pub symbol_strings : List ℕ → List ℕ
 symbol_strings b = content b (link b (symbols b))
+
+-- the names of the sections are in the same string table
+abbrev pub has_one_string_table : List ℕ → Bool
+has_one_string_table b = names b == link b (symbols b)
 
 -- st_name, st_info, st_other, st_shndx, st_value and st_size
 abbrev pub st_name : List ℕ → ℕ → ℕ

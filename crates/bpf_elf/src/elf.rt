@@ -232,6 +232,13 @@ impl<'a> Elf<'a> {
         symbol_strings(self.bytes, self.header, self.symbols)
     }
 
+    /// Whether the names of the sections and those of the symbols are in one string table.
+    pub fn has_one_string_table(&self) -> bool
+        ensures { result ≡ symbols.has_one_string_table self.now }
+    {
+        self.header.names == self.symbols.names
+    }
+
     /// Whether the canonical file has a symbol: all but the names of source files, and local ones of
     /// sections that are not code or data.
     pub fn is_kept_symbol(&self, j: usize) -> bool

@@ -54,7 +54,7 @@ pub enum ElfCause {
     #[error("e_shstrndx isn't the index of a section")]
     NamesIndex,
     /// Reported at the first section header.
-    #[error("the first section header isn't zero")]
+    #[error("the first section header isn't all zeros")]
     FirstSection,
     /// Reported at e_shstrndx, 62.
     #[error("the names of sections aren't in a string table")]
@@ -69,16 +69,16 @@ pub enum ElfCause {
     #[error("no section of a BPF object has this type, name and flags")]
     SectionKind,
     /// Reported at sh_type of the second one.
-    #[error("there are two sections of a kind of which a file has one")]
+    #[error("there is a second .symtab, .BTF or .BTF.ext")]
     SectionTwice,
     /// Reported at sh_info.
-    #[error("the table of relocations isn't named after the section that it is for")]
+    #[error("the table of relocations isn't named after its section, or that isn't code or data")]
     RelocationTarget,
     /// Reported at e_shoff, 40.
     #[error("there is no symbol table")]
     NoSymbols,
     /// Reported at sh_size of the symbol table.
-    #[error("the size of the symbol table isn't that of one or more symbols")]
+    #[error("the size of the symbol table is 0 or not a multiple of 24")]
     SymbolTableSize,
     /// Reported at sh_entsize of the symbol table.
     #[error("sh_entsize of the symbol table isn't 24")]
@@ -87,13 +87,13 @@ pub enum ElfCause {
     #[error("the names of symbols aren't in a string table")]
     SymbolNames,
     /// Reported at the first symbol.
-    #[error("the first symbol isn't zero")]
+    #[error("the first symbol isn't all zeros")]
     FirstSymbol,
     /// Reported at st_name.
     #[error("the symbol's name is outside the names of symbols")]
     SymbolName,
-    /// Reported at st_shndx.
-    #[error("the symbol is in no section, or isn't local and in a section that loaders don't see")]
+    /// Reported at st_shndx. SHN_UNDEF, SHN_ABS and SHN_COMMON are no sections, and are accepted.
+    #[error("the symbol's section doesn't exist, or isn't code or data and the symbol isn't local")]
     SymbolSection,
     /// Reported at st_value.
     #[error("the symbol extends past the end of its section")]
@@ -107,8 +107,8 @@ pub enum ElfCause {
     /// Reported at sh_link of the table.
     #[error("sh_link of the table of relocations isn't the symbol table")]
     RelocationSymbols,
-    /// Reported at r_info.
-    #[error("the relocation names no symbol, or one that is in no section of code or data")]
+    /// Reported at r_info. A symbol in SHN_UNDEF, SHN_ABS or SHN_COMMON is accepted.
+    #[error("the relocation names no symbol, a source file, or a symbol in a section that isn't code or data")]
     RelocationSymbol,
 }
 

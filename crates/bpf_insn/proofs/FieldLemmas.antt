@@ -3,12 +3,12 @@ use Rattle.std.proofs.Common.{rules, ◌↔◌, ◌≡◌, ℕ, ◌+◌, ◌*◌
 use Rattle.std.specs.Int.{w16, w32, cast_unsigned, cast_signed}
 use Rattle.std.proofs.lemmas.Int.{ints}
 use Rattle.bpf_words.specs.declared.Order.{Order, TheVariants.Little, TheVariants.Big}
-use Rattle.bpf_words.specs.{Words.word16, Words.word32, Slots.Fields, Slots.AreFields, Slots.spelled}
-use Rattle.bpf_words.proofs.OneSpelling.{word-injective_16, word-injective_32, signed_16, signed_32, pattern_fits_16, pattern_fits_32}
+use Rattle.bpf_words.specs.{Words.word16, Words.word32, Slots.Fields, Slots.AreFields, Slots.encoded}
+use Rattle.bpf_words.proofs.OneEncoding.{word-injective_16, word-injective_32, signed_16, signed_32, pattern_fits_16, pattern_fits_32}
 use Rattle.bpf_insn.specs.Table.{fields_of, next_imm_of, IsInsn, IsOffset, IsImm, alu_code, alu_class, branch_code, branch_class, source_bit, immediate, IsOperand, IsWideOf, alu_offset, wide_imm, wide_next_imm, movsx_bits, swap_opcode, swap_bits, size_number, small_size_number, atomic_size, atomic_number}
 use Rattle.bpf_insn.proofs.FormLemmas.{dst_is_reg, src_is_reg}
 use Rattle.bpf_insn.specs.Faults.{Agrees, field_value}
-use Rattle.bpf_insn.specs.Spelling.{second_slot, spelling}
+use Rattle.bpf_insn.specs.Encoding.{second_slot, encoding}
 use Rattle.bpf_insn.specs.declared.fault.SlotCause.TheVariants.{Opcode, Dst, Src, Offset, Imm}
 use Rattle.bpf_insn.specs.declared.insn.{Width.Width, Width.TheVariants.W32, Width.TheVariants.W64, Operand.Operand}
 use Rattle.bpf_insn.specs.declared.insn.Operand.TheVariants as arg
@@ -119,23 +119,23 @@ fields_in_range i h =
 
 -- ---- the values of fields in the bytes of a slot
 
-value_of_opcode : (order : Order) (f : Fields) (r : List ℕ) → field_value order Opcode (spelled order f ++ r) ≡ f.opcode ∷ []
+value_of_opcode : (order : Order) (f : Fields) (r : List ℕ) → field_value order Opcode (encoded order f ++ r) ≡ f.opcode ∷ []
 value_of_opcode Little f r = refl
 value_of_opcode Big f r = refl
 
-value_of_dst : (order : Order) (f : Fields) (r : List ℕ) → f.dst < 16 → f.src < 16 → field_value order Dst (spelled order f ++ r) ≡ f.dst ∷ []
+value_of_dst : (order : Order) (f : Fields) (r : List ℕ) → f.dst < 16 → f.src < 16 → field_value order Dst (encoded order f ++ r) ≡ f.dst ∷ []
 value_of_dst Little f r d s = let e : (16 * f.src + f.dst) % 16 ≡ f.dst = omega arith in ap (λ (x : ℕ). x ∷ []) e
 value_of_dst Big f r d s = let e : (16 * f.dst + f.src) / 16 ≡ f.dst = omega arith in ap (λ (x : ℕ). x ∷ []) e
 
-value_of_src : (order : Order) (f : Fields) (r : List ℕ) → f.dst < 16 → f.src < 16 → field_value order Src (spelled order f ++ r) ≡ f.src ∷ []
+value_of_src : (order : Order) (f : Fields) (r : List ℕ) → f.dst < 16 → f.src < 16 → field_value order Src (encoded order f ++ r) ≡ f.src ∷ []
 value_of_src Little f r d s = let e : (16 * f.src + f.dst) / 16 ≡ f.src = omega arith in ap (λ (x : ℕ). x ∷ []) e
 value_of_src Big f r d s = let e : (16 * f.dst + f.src) % 16 ≡ f.src = omega arith in ap (λ (x : ℕ). x ∷ []) e
 
-value_of_off : (order : Order) (f : Fields) (r : List ℕ) → field_value order Offset (spelled order f ++ r) ≡ word16 order (cast_unsigned w16 f.off)
+value_of_off : (order : Order) (f : Fields) (r : List ℕ) → field_value order Offset (encoded order f ++ r) ≡ word16 order (cast_unsigned w16 f.off)
 value_of_off Little f r = refl
 value_of_off Big f r = refl
 
-value_of_imm : (order : Order) (f : Fields) (r : List ℕ) → field_value order Imm (spelled order f ++ r) ≡ word32 order (cast_unsigned w32 f.imm)
+value_of_imm : (order : Order) (f : Fields) (r : List ℕ) → field_value order Imm (encoded order f ++ r) ≡ word32 order (cast_unsigned w32 f.imm)
 value_of_imm Little f r = refl
 value_of_imm Big f r = refl
 
@@ -151,8 +151,8 @@ pub record Compared (order : Order) (i : Insn) (slot : Fields) (s : List ℕ) : 
 by_values : {X : Type 0} (encoded : X → List ℕ) (x y : X) (xs ys : List ℕ) → xs ≡ encoded x → ys ≡ encoded y → (encoded x ≡ encoded y → x ≡ y) → (xs ≡ ys) ↔ (x ≡ y)
 by_values encoded x y xs ys a b same = (λ e. same (sym a ∙ e ∙ b), λ e. a ∙ ap encoded e ∙ sym b)
 
-pub compared : (order : Order) (i : Insn) (slot : Fields) (rest : List ℕ) → IsInsn i → AreFields slot → Compared order i slot (spelled order slot ++ rest)
-unfolding spelling
+pub compared : (order : Order) (i : Insn) (slot : Fields) (rest : List ℕ) → IsInsn i → AreFields slot → Compared order i slot (encoded order slot ++ rest)
+unfolding encoding
 compared order i slot rest h a =
     let f = fields_of i in
     let q = second_slot order (next_imm_of i) in

@@ -16,7 +16,7 @@ pub record HasSettledGroups (order : Order) (bytes : List ℕ) (at : ℕ) (marks
 pub at_start : (order : Order) (bytes : List ℕ) (set : GroupSet) → ((g : Group) → ¬ IsTrue (holds set g)) → HasGroupsBefore order bytes 0 set
 at_start order bytes set none = record {
   insns = [];
-  spelled = (omega arith, All-nil IsInsn, refl, refl);
+  encoded = (omega arith, All-nil IsInsn, refl, refl);
   groups = λ g. (λ t. absurd (none g t), λ a. absurd (omega (arith, a.2)));
 }
 
@@ -24,20 +24,20 @@ pub step : (order : Order) (bytes : List ℕ) (at : ℕ) (before after : GroupSe
     → HasGroupsBefore order bytes (at + len) after
 step order bytes at before after len h more = record {
   insns = h.insns ++ more.0 ∷ [];
-  spelled = one.step order bytes h.insns at h.spelled more.0 len (more.1, more.2);
+  encoded = one.step order bytes h.insns at h.encoded more.0 len (more.1, more.2);
   groups = λ g. one_pushed (λ (i : Insn). Brings (group_of i) g) (holds before g) (holds after g) h.insns more.0 (h.groups g) (more.3 g);
 }
 
 pub moved_on : (order : Order) (bytes : List ℕ) (at : ℕ) (before after : GroupSet) (len : ℕ) → HasGroupsBefore order bytes at before → AddsInsnAt order bytes at before after len
     → length bytes - (at + len) < length bytes - at
-moved_on order bytes at before after len h more = one.moved_on order bytes h.insns at h.spelled more.0 len (more.1, more.2)
+moved_on order bytes at before after len h more = one.moved_on order bytes h.insns at h.encoded more.0 len (more.1, more.2)
 
 pub fault_here : (order : Order) (bytes : List ℕ) (at : ℕ) (set : GroupSet) (fault : SlotFault) → HasGroupsBefore order bytes at set → at < length bytes
     → IsFaultAt order bytes at fault → IsInsnFault order bytes fault
-fault_here order bytes at set fault h more f = one.fault_here order bytes h.insns at h.spelled f.0 fault more f.1 f.2
+fault_here order bytes at set fault h more f = one.fault_here order bytes h.insns at h.encoded f.0 fault more f.1 f.2
 
 pub whole_file : (order : Order) (bytes : List ℕ) (at : ℕ) (set : GroupSet) → HasGroupsBefore order bytes at set → length bytes ≤ at → AreGroupsOf order bytes set
-whole_file order bytes at set h done = (h.insns, one.whole_file order bytes h.insns at h.spelled done, h.groups)
+whole_file order bytes at set h done = (h.insns, one.whole_file order bytes h.insns at h.encoded done, h.groups)
 
 -- the steps of groups_in
 pub ruleset group_steps = (at_start, step, whole_file)

@@ -3,7 +3,7 @@ use Rattle.std.proofs.Common.{◌≡◌, ◌↔◌, ◌⊎◌, ℕ, Bool, false,
 use Rattle.std.proofs.lemmas.List.{get_or-drop, get_or-replicate, get_or-set_other, get_or_past, length-replicate, set_past, take_rest}
 use Rattle.std.proofs.lemmas.{Grind.get_or-set_at, Bool.cases_eq, Bool.cases_lt}
 use Rattle.bpf_words.specs.declared.Order.{Order}
-use Rattle.bpf_insn.specs.{Table.fields_of, Spelling.spelling}
+use Rattle.bpf_insn.specs.{Table.fields_of, Encoding.encoding}
 use Rattle.bpf_insn.specs.Groups.{Brings, alu_group, atomic_group, base, divmul, group_of, holds, size_group}
 use Rattle.bpf_insn.specs.FileSteps.{AddsInsnAt, AreSettled, BeginsAt, opcode_has_group}
 use Rattle.bpf_insn.proofs.FormLemmas.{insn_form, op_code, opcode_of_form, same_form}
@@ -93,7 +93,7 @@ settles marks before after opcode i e h more j g marked brings =
 
 -- the byte at the offset of an instruction is its opcode
 pub opcode_at : (order : Order) (bytes : List ℕ) (at : ℕ) (i : Insn) → BeginsAt order bytes at i → get_or bytes at 0 ≡ (fields_of i).opcode
-unfolding spelling
+unfolding encoding
 opcode_at order bytes at i h =
     let e = sym (take_rest bytes at) ∙ h.1.1 in
     let first : get_or (drop at bytes) 0 0 ≡ (fields_of i).opcode = ap (λ (s : List ℕ). get_or s 0 0) e in
@@ -101,12 +101,12 @@ opcode_at order bytes at i h =
 
 -- the set already has the group of an instruction whose opcode is settled
 pub already_there : (order : Order) (bytes : List ℕ) (at : ℕ) (marks : List Bool) (set : GroupSet) (len : ℕ) → AreSettled marks set → IsTrue (get_or marks (get_or bytes at 0) false)
-    → (i : Insn) × BeginsAt order bytes at i × (len ≡ length (spelling order i)) → AddsInsnAt order bytes at set set len
+    → (i : Insn) × BeginsAt order bytes at i × (len ≡ length (encoding order i)) → AddsInsnAt order bytes at set set len
 already_there order bytes at marks set len h marked found =
     let here : IsTrue (get_or marks (fields_of found.0).opcode false) = rw (sym (opcode_at order bytes at found.0 found.1)) marked in
     (found.0, found.1, found.2, λ g. (λ t. inl t, λ s. elim s [ inl t ↦ t | inr b ↦ h found.0 g here b ]))
 
 pub already_there_if : (order : Order) (bytes : List ℕ) (at : ℕ) (marks : List Bool) (set : GroupSet) (r : Result ℕ SlotFault) → AreSettled marks set → IsTrue (get_or marks (get_or bytes at 0) false)
-    → IfOk r (λ len. (i : Insn) × BeginsAt order bytes at i × (len ≡ length (spelling order i))) → IfOk r (AddsInsnAt order bytes at set set)
+    → IfOk r (λ len. (i : Insn) × BeginsAt order bytes at i × (len ≡ length (encoding order i))) → IfOk r (AddsInsnAt order bytes at set set)
 already_there_if order bytes at marks set (Ok len) h marked found = already_there order bytes at marks set len h marked found
 already_there_if order bytes at marks set (Err f) h marked found = tt

@@ -1,10 +1,10 @@
 -- A slot that its opcode's rule allows is an instruction.
 use Rattle.std.proofs.Common.{◌≡◌, ℕ, ℤ, pos, List, length, take, Option, Some, None, Result, Ok, Err, IfOk, IfErr, refl, ap, sym, ◌∙◌, subst, drop}
 use Rattle.std.specs.Option.{IsSomeAnd, option_and_then}
-use Rattle.bpf_words.specs.{declared.Order.Order, Slots.Fields, Slots.AreFields, Slots.fields, Slots.spelled}
-use Rattle.bpf_words.proofs.OneSpelling.{same_fields}
+use Rattle.bpf_words.specs.{declared.Order.Order, Slots.Fields, Slots.AreFields, Slots.fields, Slots.encoded}
+use Rattle.bpf_words.proofs.OneEncoding.{same_fields}
 use Rattle.bpf_insn.specs.Table.{fields_of, next_imm_of, IsInsn, IsOffset, IsImm, alu_class, code_opcode}
-use Rattle.bpf_insn.specs.{Spelling.spelling, Faults.BeginsWith, Faults.IsSlotFault, declared.fault.SlotFault.SlotFault}
+use Rattle.bpf_insn.specs.{Encoding.encoding, Faults.BeginsWith, Faults.IsSlotFault, declared.fault.SlotFault.SlotFault}
 use Rattle.bpf_insn.specs.{Forms.form_at, Forms.form_opcode, Plain.IsWithin, Plain.IsPlain, Plain.rule_of_form}
 use Rattle.bpf_insn.proofs.{OpcodeLemmas.opcode_from_form_at, ReadLemmas.read_whole, WitnessLemmas.reg, WitnessLemmas.plain_op, WitnessLemmas.plain_code, WitnessLemmas.plain_offset, FileLaws.begins_once}
 use Rattle.bpf_insn.specs.declared.insn.Operand.TheVariants as arg
@@ -76,18 +76,18 @@ plain_is_insn slot a h = by_form (form_at slot.opcode) refl h
         subst IsOneSlot whole (plain_insn f slot.dst slot.src slot.off slot.imm (subst (λ (x : Fields). IsSomeAnd (rule_of_form f) (λ r. IsWithin r x)) (sym whole) h) a.off a.imm)
 
 -- bytes that begin with a plain slot begin with an instruction of 8 bytes
-pub plain_begins : (order : Order) (s front rest : List ℕ) (slot : Fields) → front ≡ take 8 s → rest ≡ drop 8 s → front ≡ spelled order slot → AreFields slot → IsPlain slot
-    → (i : Insn) × (BeginsWith order i s × (length (spelling order i) ≡ 8))
-plain_begins order s front rest slot f b spelled_so a h =
+pub plain_begins : (order : Order) (s front rest : List ℕ) (slot : Fields) → front ≡ take 8 s → rest ≡ drop 8 s → front ≡ encoded order slot → AreFields slot → IsPlain slot
+    → (i : Insn) × (BeginsWith order i s × (length (encoding order i) ≡ 8))
+plain_begins order s front rest slot f b encoded_so a h =
     let one = plain_is_insn slot a h in
-    let begins = read_whole order s front rest slot f b spelled_so one.insn 8 (one.is, one.fields, one.alone) refl in
+    let begins = read_whole order s front rest slot f b encoded_so one.insn 8 (one.is, one.fields, one.alone) refl in
     (one.insn, (begins.0, sym begins.1))
 
 -- if the bytes begin with an instruction, a correct result is its length
-pub len_answered : (order : Order) (s : List ℕ) (r : Result ℕ SlotFault) → IfOk r (λ n. (i : Insn) × (BeginsWith order i s × (n ≡ length (spelling order i)))) → IfErr r (IsSlotFault order s)
-    → (i : Insn) → BeginsWith order i s → r ≡ Ok (length (spelling order i))
+pub len_answered : (order : Order) (s : List ℕ) (r : Result ℕ SlotFault) → IfOk r (λ n. (i : Insn) × (BeginsWith order i s × (n ≡ length (encoding order i)))) → IfErr r (IsSlotFault order s)
+    → (i : Insn) → BeginsWith order i s → r ≡ Ok (length (encoding order i))
 len_answered order s (Ok n) found fault i b =
     let same : found.0 ≡ i = begins_once order found.0 i s found.1.0 b in
-    let len : n ≡ length (spelling order found.0) = found.1.1 in
+    let len : n ≡ length (encoding order found.0) = found.1.1 in
     cc
-len_answered order s (Err e) found fault i b = absurd (fault.unspelled i b)
+len_answered order s (Err e) found fault i b = absurd (fault.unencoded i b)

@@ -6,8 +6,8 @@ use Rattle.std.proofs.lemmas.{Bool.Decides.nat_tests, Int.ints}
 use Rattle.std.proofs.Math.Nat.{mod-eq_of_lt}
 use Rattle.std.proofs.lemmas.Nat.{and_block, and_mask, and_comm, and_or_self, and_or_apart, le_or_l, le_or_r, from_le_bytes-to_le_bytes_2, from_le_bytes-to_le_bytes_4}
 use Rattle.bpf_words.specs.declared.Order.{Order, TheVariants.Little, TheVariants.Big}
-use Rattle.bpf_words.specs.{Words.word16, Words.word32, Slots.Fields, Slots.AreFields, Slots.register_byte, Slots.spelled}
-use Rattle.bpf_words.proofs.OneSpelling.{signed_16, signed_32, pattern_fits_16, pattern_fits_32}
+use Rattle.bpf_words.specs.{Words.word16, Words.word32, Slots.Fields, Slots.AreFields, Slots.register_byte, Slots.encoded}
+use Rattle.bpf_words.proofs.OneEncoding.{signed_16, signed_32, pattern_fits_16, pattern_fits_32}
 use Rattle.bpf_insn.specs.Plain.{Rule, IsWithin, IsPlain, rule_at, zero_unless, rule_bits, bits_of, zero_bits_at, registers_above}
 
 -- ---- the number of a slot, by its fields
@@ -21,7 +21,7 @@ off_of order f = from_le_bytes w16 (word16 order (cast_unsigned w16 f.off))
 imm_of : Order → Fields → ℕ
 imm_of order f = from_le_bytes w32 (word32 order (cast_unsigned w32 f.imm))
 
-number_by_fields : (order : Order) (f : Fields) → from_le_bytes w64 (spelled order f) ≡ joined f.opcode (register_byte order f.dst f.src) (off_of order f) (imm_of order f)
+number_by_fields : (order : Order) (f : Fields) → from_le_bytes w64 (encoded order f) ≡ joined f.opcode (register_byte order f.dst f.src) (off_of order f) (imm_of order f)
 unfolding off_of imm_of
 number_by_fields Little f = omega arith
 number_by_fields Big f = omega arith
@@ -109,7 +109,7 @@ rule_joined order r = omega arith
 joined_zero : (op r o k : ℕ) → joined op r o k ≡ 0 → (r ≡ 0) × ((o ≡ 0) × (k ≡ 0))
 joined_zero op r o k e = (omega arith, (omega arith, omega arith))
 
-within : (order : Order) (f : Fields) (r : Rule) → AreFields f → bit_and (from_le_bytes w64 (spelled order f)) (rule_bits order r) ≡ 0
+within : (order : Order) (f : Fields) (r : Rule) → AreFields f → bit_and (from_le_bytes w64 (encoded order f)) (rule_bits order r) ≡ 0
     → registers_above (register_byte order f.dst f.src) ≡ 0 → IsWithin r f
 within order f r a e above =
     let D = zero_unless r.any_dst 0xf in
@@ -118,7 +118,7 @@ within order f r a e above =
     sym (and_joined f.opcode (register_byte order f.dst f.src) (off_of order f) (imm_of order f) (register_byte order D S) (zero_unless r.any_off 0xffff) (zero_unless r.any_imm 0xffffffff)
     a.opcode (registers_below order f.dst f.src a.dst a.src) (registers_below order D S (below r.any_dst 15) (below r.any_src 15)) (off_below order f) (below r.any_off 0xffff))
     ∙ sym (ap (λ (x : ℕ). bit_and x (joined 0 (register_byte order D S) (zero_unless r.any_off 0xffff) (zero_unless r.any_imm 0xffffffff))) (number_by_fields order f))
-    ∙ sym (ap (λ (x : ℕ). bit_and (from_le_bytes w64 (spelled order f)) x) (rule_joined order r))
+    ∙ sym (ap (λ (x : ℕ). bit_and (from_le_bytes w64 (encoded order f)) x) (rule_joined order r))
     ∙ e) in
     let regs = no_registers order _ _ (sym (and_registers order f.dst f.src D S a.dst a.src (below r.any_dst 15) (below r.any_src 15)) ∙ parts.0) in
     let ten = up_to_ten order f.dst f.src a.dst a.src above in
@@ -134,12 +134,12 @@ within order f r a e above =
 even : (order : Order) (r : Rule) → bit_and 1 (rule_bits order r) ≡ 0
 even order r = and_comm 1 (rule_bits order r) ∙ and_mask (rule_bits order r) 1 ∙ omega arith
 
-by_rule : (order : Order) (f : Fields) (o : Option Rule) → AreFields f → bit_and (bit_or (from_le_bytes w64 (spelled order f)) 1) (bits_of order o) ≡ 0
+by_rule : (order : Order) (f : Fields) (o : Option Rule) → AreFields f → bit_and (bit_or (from_le_bytes w64 (encoded order f)) 1) (bits_of order o) ≡ 0
     → registers_above (register_byte order f.dst f.src) ≡ 0 → IsSomeAnd o (λ r. IsWithin r f)
-by_rule order f None a e above = absurd (omega (arith, e, and_or_self 1 (from_le_bytes w64 (spelled order f))))
-by_rule order f (Some r) a e above = within order f r a (sym (and_or_apart (rule_bits order r) (from_le_bytes w64 (spelled order f)) 1 (even order r)) ∙ e) above
+by_rule order f None a e above = absurd (omega (arith, e, and_or_self 1 (from_le_bytes w64 (encoded order f))))
+by_rule order f (Some r) a e above = within order f r a (sym (and_or_apart (rule_bits order r) (from_le_bytes w64 (encoded order f)) 1 (even order r)) ∙ e) above
 
-second_byte : (order : Order) (f : Fields) → slice_index (spelled order f) 1 ≡ register_byte order f.dst f.src
+second_byte : (order : Order) (f : Fields) → slice_index (encoded order f) 1 ≡ register_byte order f.dst f.src
 second_byte Little f = refl
 second_byte Big f = refl
 
@@ -147,13 +147,13 @@ is_zero : (n : ℕ) (b : Bool) → b ≡ (n == 0) → b ≡ true → n ≡ 0
 is_zero n b e t = grind (arith, nat_tests)
 
 -- a slot is plain if the check of its bits and registers returns 0
-pub plain_by_bits : (order : Order) (f : Fields) (bytes : List ℕ) (word bits above : ℕ) → AreFields f → bytes ≡ spelled order f → word ≡ from_le_bytes w64 bytes
+pub plain_by_bits : (order : Order) (f : Fields) (bytes : List ℕ) (word bits above : ℕ) → AreFields f → bytes ≡ encoded order f → word ≡ from_le_bytes w64 bytes
     → bits ≡ zero_bits_at order f.opcode → above ≡ registers_above (slice_index bytes 1) → IsTrue (bit_or (bit_and (bit_or word 1) bits) above == 0) → IsPlain f
 plain_by_bits order f bytes word bits above a e hw hb ha reported =
     let h = is_zero (bit_or (bit_and (bit_or word 1) bits) above) _ refl reported in
     let left : bit_and (bit_or word 1) bits ≡ 0 = omega (arith, h, le_or_l (bit_and (bit_or word 1) bits) above) in
     let right : above ≡ 0 = omega (arith, h, le_or_r (bit_and (bit_or word 1) bits) above) in
-    let number : word ≡ from_le_bytes w64 (spelled order f) = hw ∙ ap (from_le_bytes w64) e in
+    let number : word ≡ from_le_bytes w64 (encoded order f) = hw ∙ ap (from_le_bytes w64) e in
     by_rule order f (rule_at f.opcode) a
     (sym (ap (λ (x : ℕ). bit_and (bit_or x 1) (zero_bits_at order f.opcode)) number) ∙ sym (ap (λ (x : ℕ). bit_and (bit_or word 1) x) hb) ∙ left)
     (sym (ap registers_above (sym (second_byte order f))) ∙ sym (ap (λ (xs : List ℕ). registers_above (slice_index xs 1)) e) ∙ sym ha ∙ right)

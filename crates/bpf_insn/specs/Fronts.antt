@@ -9,7 +9,7 @@ abbrev pub StopsAt : Order → List ℕ → Option SlotFault → Type 0
 StopsAt order left None = left ≡ []
 StopsAt order left (Some fault) = IsSlotFault order left fault
 
--- the length and the number of the instructions in the longest sequence of spellings at the start of the bytes, and the fault of what follows
+-- the length and the number of the instructions in the longest sequence of encodings at the start of the bytes, and the fault of what follows
 pub record IsInsnFront (order : Order) (bytes : List ℕ) (front : InsnFront) : Type 0 where
   pub insns : List Insn
   pub is : IsFront order bytes insns (drop front.len bytes)

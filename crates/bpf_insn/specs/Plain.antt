@@ -1,4 +1,3 @@
--- Only private contracts cite this file.
 -- Plain instructions, in which each field after the opcode can be checked by itself, and these checks as bits of a number.
 use Rattle.std.specs.Prelude.{◌≡◌, ℕ, ◌+◌, ◌*◌, ◌/◌, ◌%◌, pos, Bool, true, false, Option, Some, None, IsSomeAnd, option_and_then}
 use Rattle.std.specs.Bool.{OnFalse}

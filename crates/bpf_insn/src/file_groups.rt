@@ -6,7 +6,7 @@
 
 ghost use Rattle.std.specs.Prelude.{◌≡◌, ◌<◌, ◌≤◌, List, length, IfErr, IfOk, IsOk};
 ghost use Rattle.bpf_insn.specs.declared.{group.Group.Group, insn.Insn.Insn};
-ghost use Rattle.bpf_insn.specs.{Faults.IsInsnFault, Groups.AreGroupsOf, Spelling.InsnFile};
+ghost use Rattle.bpf_insn.specs.{Faults.IsInsnFault, Groups.AreGroupsOf, Encoding.InsnFile};
 ghost use Rattle.bpf_insn.specs.FileSteps.{AddsInsnAt, AreSettled, HasGroupsBefore, IsFaultAt};
 ghost use Rattle.bpf_insn.specs.FileSteps as spec;
 

@@ -11,7 +11,7 @@
 //! instruction, which `read.rt` finds out.
 
 ghost use Rattle.std.specs.Prelude.{◌≡◌, IsTrue};
-ghost use Rattle.bpf_words.specs.Slots.{AreFields, Fields, spelled};
+ghost use Rattle.bpf_words.specs.Slots.{AreFields, Fields, encoded};
 ghost use Rattle.bpf_insn.specs.Plain.{IsPlain, registers_above, zero_bits_at};
 
 use crate::Order;
@@ -164,7 +164,7 @@ fn registers_above_ten(registers: u8) -> u64
 #[inline(always)]
 pub(crate) fn is_plain(order: Order, bytes: &[u8; 8]) -> bool
     ensures { IsTrue result
-        → (slot : Fields) × (AreFields slot × ((bytes.now ≡ spelled order slot) × IsPlain slot)) }
+        → (slot : Fields) × (AreFields slot × ((bytes.now ≡ encoded order slot) × IsPlain slot)) }
 {
     let word = u64::from_le_bytes(*bytes) | 1;
     let set = word & zero_bits(order, bytes[0]);

@@ -7,7 +7,7 @@
 ghost use Rattle.std.specs.Prelude.{◌≡◌, ◌<◌, ◌/◌, List, Some, None, length, IfSome, IsTrue};
 ghost use Rattle.bpf_insn.specs.{declared.fault.SlotFault.SlotFault, declared.insn.Insn.Insn};
 ghost use Rattle.bpf_insn.specs.{FileSteps.ReadsTo, Fronts.IsInsnFront, Faults.IsInsnFault};
-ghost use Rattle.bpf_insn.specs.{Faults.BeginsWith, Spelling.InsnFile, Spelling.spelling};
+ghost use Rattle.bpf_insn.specs.{Faults.BeginsWith, Encoding.InsnFile, Encoding.encoding};
 
 use crate::plain::is_plain;
 use crate::read::other_len;
@@ -29,7 +29,7 @@ pub struct InsnFront {
 #[inline(always)]
 pub(crate) fn begins_plainly(order: Order, bytes: &[u8]) -> bool
     ensures { IsTrue result
-        → (i : Insn) × (BeginsWith order i bytes.now × (length (spelling order i) ≡ 8)) }
+        → (i : Insn) × (BeginsWith order i bytes.now × (length (encoding order i) ≡ 8)) }
 {
     match bytes.split_first_chunk::<8>() {
         Some((first, _)) => is_plain(order, first),

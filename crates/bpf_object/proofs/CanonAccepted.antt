@@ -1,4 +1,4 @@
--- The object of a file that is accepted is good.
+-- The object of a file that is accepted is valid.
 use Rattle.std.proofs.Common.{◌≡◌, ℕ, ◌+◌, ◌-◌, ◌<◌, ◌⊎◌, ◌==◌, Bool, true, false, cond, List, [], Option, None, length, get_or, drop, if◌then◌else◌, inl, inr, refl, sym, ap, subst, ◌∙◌, length-take, length-drop, arith}
 use Rattle.std.specs.Prelude.{nat_lt, nat_le}
 use Rattle.std.proofs.lemmas.Bool.{and_parts, or_cases, or_left, ltb-true, leb-true}
@@ -16,7 +16,7 @@ use Rattle.bpf_elf.proofs.{KeptFacts.symbol_is, KindLemmas.none_is, KindLemmas.t
 use Rattle.bpf_object.specs.Objects.{KeptRelocation, KeptSection, ObjectTypes}
 use Rattle.bpf_object.specs.Kept.{number_of, is_table, is_kept_section, section_number, kept_relocation, table_rows, kept_section, kept_symbol, kept_sections, kept_symbols}
 use Rattle.bpf_object.specs.Denotes.{object_of}
-use Rattle.bpf_object.proofs.CanonGood.{section_of, nothing, no_relocation, kind_of_section, IsDataOf, IsGoodData, IsGoodRelocation, IsGoodTable, IsGoodSection}
+use Rattle.bpf_object.proofs.CanonValid.{section_of, nothing, no_relocation, kind_of_section, IsDataOf, IsValidData, IsValidRelocation, IsValidTable, IsValidSection}
 use Rattle.bpf_object.proofs.CanonSections.{not_table}
 use Rattle.bpf_object.proofs.CanonLists.{length-listed, number_less, number_all, get-listed, listed_from, listed_at}
 use Rattle.bpf_object.proofs.CanonRules.{word_below, long_below, string_without_nul, IsSectionOf, section_facts, target_facts, form_facts}
@@ -55,8 +55,8 @@ module _ (b : List ℕ) (bytes : IsBytes b) (elf : IsElf b) (t : Option ObjectTy
         is_data = ap (λ (s : KeptSection). is_kind Data (kind_of_section s)) (section_numbered i lt kept) ∙ known_kind b i Data is;
       }
 
-  good_data : (i : ℕ) → i < number.count b → is_kind Data (kind b i) ≡ true → IsGoodData (kept_section b i)
-  good_data i lt is =
+  valid_data : (i : ℕ) → i < number.count b → is_kind Data (kind b i) ≡ true → IsValidData (kept_section b i)
+  valid_data i lt is =
       let other : is_table b i ≡ false = not_table (kind b i) is in
       record {
         kind = known_kind b i Data is;
@@ -80,8 +80,8 @@ module _ (b : List ℕ) (bytes : IsBytes b) (elf : IsElf b) (t : Option ObjectTy
   row_is i k lt =
       ap (λ (m : ℕ). get_or (table_rows b i) m no_relocation) (sym (all_rows k)) ∙ get-listed (λ j. true) (kept_relocation b i) (relocation_count b i) k no_relocation lt refl
 
-  good_row : (i k : ℕ) → i < number.count b → is_table b i ≡ true → k < relocation_count b i → IsGoodRelocation (object_of b t) (kept_relocation b i k)
-  good_row i k lt is below =
+  valid_row : (i k : ℕ) → i < number.count b → is_table b i ≡ true → k < relocation_count b i → IsValidRelocation (object_of b t) (kept_relocation b i k)
+  valid_row i k lt is below =
       let parts = and_parts (nat_lt (r_symbol b i k) (symbol_count b)) (is_kept_symbol b (r_symbol b i k)) (symbol_is b i k elf lt is below) in
       record {
         offset = long_below b bytes (relocation_place b i k);
@@ -89,8 +89,8 @@ module _ (b : List ℕ) (bytes : IsBytes b) (elf : IsElf b) (t : Option ObjectTy
         symbol = omega (arith, symbol_count_is, number_less (is_kept_symbol b) (r_symbol b i k) (symbol_count b) (ltb-true _ _ parts.0) parts.1);
       }
 
-  good_table : (i : ℕ) → i < number.count b → is_table b i ≡ true → IsGoodTable (object_of b t) (kept_section b i)
-  good_table i lt is =
+  valid_table : (i : ℕ) → i < number.count b → is_table b i ≡ true → IsValidTable (object_of b t) (kept_section b i)
+  valid_table i lt is =
       let target = target_facts b elf i lt is in
       let form = form_facts b elf i lt is in
       let whole = form.whole in
@@ -108,17 +108,17 @@ module _ (b : List ℕ) (bytes : IsBytes b) (elf : IsElf b) (t : Option ObjectTy
             ∙ ap (λ (s : KeptSection). is_table_name (name b i) s.name) (section_numbered (number.info b i) target.there code) ∙ target.named;
         rows = λ k below.
             let there : k < relocation_count b i = omega (arith, below, ap length rows, row_count_is i) in
-            subst (IsGoodRelocation (object_of b t)) (sym (ap (λ (rs : List KeptRelocation). get_or rs k no_relocation) rows ∙ row_is i k there)) (good_row i k lt is there);
+            subst (IsValidRelocation (object_of b t)) (sym (ap (λ (rs : List KeptRelocation). get_or rs k no_relocation) rows ∙ row_is i k there)) (valid_row i k lt is there);
       }
 
-  good_kept : (i : ℕ) → i < number.count b → is_kept_section b i ≡ true → IsGoodData (kept_section b i) ⊎ IsGoodTable (object_of b t) (kept_section b i)
-  good_kept i lt is = elim (or_cases (is_kind Data (kind b i)) (is_table b i) is) [
-    | inl code ↦ inl (good_data i lt code)
-    | inr table ↦ inr (good_table i lt table)
+  valid_kept : (i : ℕ) → i < number.count b → is_kept_section b i ≡ true → IsValidData (kept_section b i) ⊎ IsValidTable (object_of b t) (kept_section b i)
+  valid_kept i lt is = elim (or_cases (is_kind Data (kind b i)) (is_table b i) is) [
+    | inl code ↦ inl (valid_data i lt code)
+    | inr table ↦ inr (valid_table i lt table)
   ]
 
-  good_section : (i : ℕ) → i < number.count b → is_kept_section b i ≡ true → IsGoodSection (object_of b t) (kept_section b i)
-  good_section i lt is =
+  valid_section : (i : ℕ) → i < number.count b → is_kept_section b i ≡ true → IsValidSection (object_of b t) (kept_section b i)
+  valid_section i lt is =
       let named = (section_facts b elf i lt).named in
       let p = number.place b i in
       record {
@@ -130,10 +130,10 @@ module _ (b : List ℕ) (bytes : IsBytes b) (elf : IsElf b) (t : Option ObjectTy
         size = long_below b bytes (p + 32);
         alignment = long_below b bytes (p + 48);
         entry_size = long_below b bytes (p + 56);
-        kept = good_kept i lt is;
+        kept = valid_kept i lt is;
       }
 
-  pub good_sections : (i : ℕ) → i < length (kept_sections b) → IsGoodSection (object_of b t) (section_of (object_of b t) i)
-  good_sections i lt =
+  pub valid_sections : (i : ℕ) → i < length (kept_sections b) → IsValidSection (object_of b t) (section_of (object_of b t) i)
+  valid_sections i lt =
       let it = listed_from (is_kept_section b) (number.count b) i (subst (λ (n : ℕ). i < n) section_count_is lt) in
-      subst (IsGoodSection (object_of b t)) (sym (listed_at (is_kept_section b) (kept_section b) (number.count b) i nothing it)) (good_section it.from it.below it.passes)
+      subst (IsValidSection (object_of b t)) (sym (listed_at (is_kept_section b) (kept_section b) (number.count b) i nothing it)) (valid_section it.from it.below it.passes)

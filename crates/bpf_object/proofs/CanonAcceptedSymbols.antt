@@ -1,4 +1,4 @@
--- The symbols of a file that is accepted are good, and so is its object.
+-- The symbols of a file that is accepted are valid, and so is its object.
 use Rattle.std.proofs.Common.{◌≡◌, ℕ, ◌+◌, ◌-◌, ◌^◌, ◌<◌, ◌≤◌, ◌⊎◌, ◌==◌, ◌&&◌, ◌||◌, Bool, true, false, not, List, [], Option, length, if◌then◌else◌, inl, inr, refl, sym, ap, subst, ◌∙◌, arith}
 use Rattle.std.specs.Prelude.{nat_lt, nat_le}
 use Rattle.std.proofs.lemmas.Bool.{cases_Bool, and_parts, or_left, ltb-true, leb-true, Decides.nat_tests}
@@ -17,10 +17,10 @@ use Rattle.bpf_object.specs.Kept.{is_table, is_kept_section, section_number, sym
 use Rattle.bpf_object.specs.Denotes.{object_of}
 use Rattle.bpf_object.proofs.KeptLemmas.{number_below}
 use Rattle.bpf_object.proofs.ReadBackSectionRules.{first_is_empty}
-use Rattle.bpf_object.proofs.CanonGood.{section_of, symbol_of, no_symbol, IsDataOf, IsGoodSymbol, GoodObject}
+use Rattle.bpf_object.proofs.CanonValid.{section_of, symbol_of, no_symbol, IsDataOf, IsValidSymbol, ValidObject}
 use Rattle.bpf_object.proofs.CanonLists.{number_less, get-listed, listed_from, listed_at}
 use Rattle.bpf_object.proofs.CanonRules.{half_below, word_below, long_below, string_without_nul, AreZero, zero_bytes, half_zero, word_zero, long_zero, left_false, few_sections, IsSymbolTable, symbol_table_facts, symbol_facts}
-use Rattle.bpf_object.proofs.CanonAccepted.{data_there, section_numbered, symbol_count_is, good_sections}
+use Rattle.bpf_object.proofs.CanonAccepted.{data_there, section_numbered, symbol_count_is, valid_sections}
 
 -- ---- the first symbol
 
@@ -112,8 +112,8 @@ module _ (b : List ℕ) (bytes : IsBytes b) (elf : IsElf b) (t : Option ObjectTy
             (placed_index j (ltb-true _ _ (and_parts (nat_lt sh (number.count b)) (is_local (st_info b j) || is_data b sh) section).0) code (leb-true _ _ inside))
       ]
 
-  good_symbol : (j : ℕ) → j < symbol_count b → is_kept_symbol b j ≡ true → IsGoodSymbol (object_of b t) (kept_symbol b j)
-  good_symbol j lt is =
+  valid_symbol : (j : ℕ) → j < symbol_count b → is_kept_symbol b j ≡ true → IsValidSymbol (object_of b t) (kept_symbol b j)
+  valid_symbol j lt is =
       let p = symbol_place b j in
       let index = index_of j lt is in
       record {
@@ -127,22 +127,22 @@ module _ (b : List ℕ) (bytes : IsBytes b) (elf : IsElf b) (t : Option ObjectTy
         not_file = index.not_file;
       }
 
-  good_symbols : (j : ℕ) → j < length (kept_symbols b) → IsGoodSymbol (object_of b t) (symbol_of (object_of b t) j)
-  good_symbols j lt =
+  valid_symbols : (j : ℕ) → j < length (kept_symbols b) → IsValidSymbol (object_of b t) (symbol_of (object_of b t) j)
+  valid_symbols j lt =
       let it = listed_from (is_kept_symbol b) (symbol_count b) j (subst (λ (n : ℕ). j < n) (symbol_count_is b bytes elf t) lt) in
-      subst (IsGoodSymbol (object_of b t)) (sym (listed_at (is_kept_symbol b) (kept_symbol b) (symbol_count b) j no_symbol it)) (good_symbol it.from it.below it.passes)
+      subst (IsValidSymbol (object_of b t)) (sym (listed_at (is_kept_symbol b) (kept_symbol b) (symbol_count b) j no_symbol it)) (valid_symbol it.from it.below it.passes)
 
   -- ---- the object
 
-  pub object_is_good : GoodObject (object_of b t)
-  object_is_good =
+  pub object_is_valid : ValidObject (object_of b t)
+  object_is_valid =
       let table = symbol_table_facts b elf in
       let some = table.some in
       let kept = first_kept b table in
       record {
         flags = word_below b bytes 48;
-        sections = good_sections b bytes elf t;
+        sections = valid_sections b bytes elf t;
         some = omega (arith, symbol_count_is b bytes elf t, number_less (is_kept_symbol b) 0 (symbol_count b) some kept);
         first = get-listed (is_kept_symbol b) (kept_symbol b) (symbol_count b) 0 no_symbol some kept ∙ first_is b table;
-        symbols = good_symbols;
+        symbols = valid_symbols;
       }

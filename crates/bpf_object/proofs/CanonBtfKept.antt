@@ -10,7 +10,7 @@ use Rattle.bpf_elf.proofs.RuleLemmas.{both_hold}
 use Rattle.btf_raw.specs.Header.{header, TYPES_LIMIT, STRINGS_LIMIT}
 use Rattle.btf_raw.specs.Frames.{IsFrame}
 use Rattle.btf_raw.proofs.Cuts.{header_word, five_fit}
-use Rattle.btf_types.specs.{Values.TypeRecord, Denotes.HoldsSections, Good.IsGood, Good.facts, Names.names, Names.record_names, Reading.record_of, Spelling.Spells, Sections.SectionWords}
+use Rattle.btf_types.specs.{Values.TypeRecord, Denotes.HoldsSections, Valid.IsValid, Valid.facts, Names.names, Names.record_names, Reading.record_of, Encoding.Encodes, Sections.SectionWords}
 use Rattle.btf_types.proofs.{Lists.zip_at, Members.Has}
 use Rattle.bpf_canon.specs.btf.CanonicalBtf.{record_words}
 use Rattle.bpf_object.specs.Objects.{ObjectTypes, Object}
@@ -18,11 +18,11 @@ use Rattle.bpf_object.specs.Canonical.{strings_of, place_of, types_strings, exte
 use Rattle.bpf_object.specs.Denotes.{types_of, types_fit}
 use Rattle.bpf_object.specs.{Types.TypesSection, Types.is_order, Types.form_rules, Types.record_rules, Types.records_start, Types.record_place, Types.rules_of, TypesFaults.KeepsTypes}
 use Rattle.bpf_object.proofs.{ReadBackKinds.all_hold, ReadBackTests.equal_test, ReadBackTests.most_test}
-use Rattle.bpf_object.proofs.CanonGood.{GoodObject, IsSmall}
+use Rattle.bpf_object.proofs.CanonValid.{ValidObject, IsSmall}
 use Rattle.bpf_object.proofs.CanonNames.{has_left, has_right}
 use Rattle.bpf_object.proofs.CanonReads.{order_back}
 use Rattle.bpf_object.proofs.CanonTypes.{types_back}
-use Rattle.bpf_object.proofs.CanonBtf.{words_of, words_spell, each_frame, types_few, records_back, holds_words}
+use Rattle.bpf_object.proofs.CanonBtf.{words_of, words_encode, each_frame, types_few, records_back, holds_words}
 use Rattle.bpf_object.proofs.CanonBtfRules.{no_record, AreFree, record_kept}
 
 -- ---- the header
@@ -51,7 +51,7 @@ has_flat f [] k d y lt h = absurd (omega (arith, lt))
 has_flat f (x ∷ xs) zero d y lt h = has_left (f x) (flat_map f xs) y h
 has_flat f (x ∷ xs) (suc k) d y lt h = has_right (f x) (flat_map f xs) y (has_flat f xs k d y (omega (arith, lt)) h)
 
-module _ (o : Order) (xs : List (List ℕ)) (v : List TypeRecord) (good : IsGood v) (has : (name : List ℕ) → Has (names v) name → Has xs name) (short : length (strings_of xs) ≤ STRINGS_LIMIT)
+module _ (o : Order) (xs : List (List ℕ)) (v : List TypeRecord) (valid : IsValid v) (has : (name : List ℕ) → Has (names v) name → Has xs name) (short : length (strings_of xs) ≤ STRINGS_LIMIT)
     (free : AreFree v) where
   abbrev frames : List (List ℕ)
   frames = map (record_words (place_of xs)) v
@@ -64,18 +64,18 @@ module _ (o : Order) (xs : List (List ℕ)) (v : List TypeRecord) (good : IsGood
 
   decoded : (k : ℕ) → k < length v → record_of (strings_of xs) (get_or frames k []) ≡ get_or v k no_record
   decoded k lt =
-      sym (get_or-map (record_of (strings_of xs)) frames k [] no_record (there k lt)) ∙ ap (λ (w : List TypeRecord). get_or w k no_record) (records_back o xs v good has short)
+      sym (get_or-map (record_of (strings_of xs)) frames k [] no_record (there k lt)) ∙ ap (λ (w : List TypeRecord). get_or w k no_record) (records_back o xs v valid has short)
 
   record_holds : (pos k : ℕ) → k < length v → AllHold (record_rules (strings_of xs) pos (get_or frames k []))
   record_holds pos k lt =
       let r = get_or v k no_record in
       let is = frame_is k lt in
-      let spells : Spells (strings_of xs) r (record_words (place_of xs) r) =
-      subst (λ (f : List ℕ). Spells (strings_of xs) r f) is (zip_at (Spells (strings_of xs)) v frames k no_record [] (words_spell o xs v good has short) lt) in
-      let frame : IsFrame (record_words (place_of xs) r) = subst (λ (f : List ℕ). IsFrame f) is (each_frame o xs v good has short k [] (there k lt)) in
+      let encodes : Encodes (strings_of xs) r (record_words (place_of xs) r) =
+      subst (λ (f : List ℕ). Encodes (strings_of xs) r f) is (zip_at (Encodes (strings_of xs)) v frames k no_record [] (words_encode o xs v valid has short) lt) in
+      let frame : IsFrame (record_words (place_of xs) r) = subst (λ (f : List ℕ). IsFrame f) is (each_frame o xs v valid has short k [] (there k lt)) in
       let back : record_of (strings_of xs) (record_words (place_of xs) r) ≡ r = ap (λ (f : List ℕ). record_of (strings_of xs) f) (sym is) ∙ decoded k lt in
       subst (λ (f : List ℕ). AllHold (record_rules (strings_of xs) pos f)) (sym is)
-      (record_kept xs (facts v) r (good.each k no_record lt) (λ name h. has name (has_flat record_names v k no_record name lt h)) spells frame back (free k lt) pos)
+      (record_kept xs (facts v) r (valid.each k no_record lt) (λ name h. has name (has_flat record_names v k no_record name lt h)) encodes frame back (free k lt) pos)
 
   -- a section with these bytes
   pub keeps_types : (x : TypesSection) → x.order ≡ o → x.bytes ≡ btf_of o (types_bytes o (place_of xs) v) (strings_of xs) → length x.bytes ≤ 15728640 → KeepsTypes x (words_of o xs v)
@@ -84,10 +84,10 @@ module _ (o : Order) (xs : List (List ℕ)) (v : List TypeRecord) (good : IsGood
       let types = types_bytes o (place_of xs) v in
       let ordered : is_order o x.order ≡ true = ap (λ (p : Order). is_order o p) order ∙ same_order_test o in
       let off : (word32_at o x.bytes 8 == 0) ≡ true =
-      equal_test (word32_at o x.bytes 8) 0 (ap (λ (b : List ℕ). word32_at o b 8) bytes ∙ type_off_is o types (strings_of xs) (types_few o xs v good has short) short) in
+      equal_test (word32_at o x.bytes 8) 0 (ap (λ (b : List ℕ). word32_at o b 8) bytes ∙ type_off_is o types (strings_of xs) (types_few o xs v valid has short) short) in
       record {
         size = rw (most_test (length x.bytes) 15728640 fit) refl;
-        sections = subst (λ (b : List ℕ). HoldsSections b s) (sym bytes) (holds_words o xs v good has short);
+        sections = subst (λ (b : List ℕ). HoldsSections b s) (sym bytes) (holds_words o xs v valid has short);
         rules =
             both_hold (form_rules x s) (each (length frames) (rules_of (records_start x s) s)) (rw (ordered, off) refl)
             (all_hold (length frames) (rules_of (records_start x s) s)
@@ -124,7 +124,7 @@ small_types x t is fit =
 abbrev pub canonical_words : Order → ObjectTypes → SectionWords
 canonical_words o t = words_of o (types_strings t) t.records
 
-module _ (x : Object) (good : GoodObject x) (small : IsSmall x) (t : ObjectTypes) (is : x.types ≡ Some t) (fit : AreSmallTypes x.order t) (records : IsGood t.records) where
+module _ (x : Object) (valid : ValidObject x) (small : IsSmall x) (t : ObjectTypes) (is : x.types ≡ Some t) (fit : AreSmallTypes x.order t) (records : IsValid t.records) where
   pub names_there : (name : List ℕ) → Has (names t.records) name → Has (types_strings t) name
   names_there name h = has_left (names t.records) (extension_strings t) name h
 
@@ -138,7 +138,7 @@ module _ (x : Object) (good : GoodObject x) (small : IsSmall x) (t : ObjectTypes
 
   pub canonical_types_kept : AreFree t.records → KeepsTypes (types_of (canonical x)) (canonical_words x.order t)
   canonical_types_kept free =
-      let here = types_back x good small t is in
+      let here = types_back x valid small t is in
       let few = fit.types in
-      keeps_types x.order (types_strings t) t.records records names_there strings_short free (types_of (canonical x)) (order_back x good small) here.bytes_are
+      keeps_types x.order (types_strings t) t.records records names_there strings_short free (types_of (canonical x)) (order_back x valid small) here.bytes_are
       (omega (arith, few, ap length here.bytes_are))

@@ -10,18 +10,18 @@ use Rattle.bpf_elf.proofs.RuleLemmas.{both_hold, first_hold, rest_hold, each_hol
 use Rattle.btf_raw.specs.{KindNumbers.DATASEC, Heads.bit, Kinds.is_struct, Kinds.item_words, Kinds.has_item_names, Names.IsWithoutNul, Names.TextAt}
 use Rattle.btf_raw.specs.Frames.{IsFrame, kind, vlen, flag, name_word}
 use Rattle.btf_types.specs.Values.{TypeHead, KPtr, KStruct, KUnion, KEnum, KFuncProto, KDatasec, KEnum64, TypeItem, Member, EnumValue, Value64, Param, Entry, TypeRecord}
-use Rattle.btf_types.specs.{Names.IsName, Names.kept, Names.head_name, Names.item_name as name_of_item, Names.record_names, Reading.record_of, Good.ItemOf, Good.IsGoodRecord, Good.has_bit_fields, Good.facts}
-use Rattle.btf_types.specs.Spelling.{Spells, kind_number, head_tail, record_vlen}
+use Rattle.btf_types.specs.{Names.IsName, Names.kept, Names.head_name, Names.item_name as name_of_item, Names.record_names, Reading.record_of, Valid.ItemOf, Valid.IsValidRecord, Valid.has_bit_fields, Valid.facts}
+use Rattle.btf_types.specs.Encoding.{Encodes, kind_number, head_tail, record_vlen}
 use Rattle.btf_types.specs.checks.{Numbers.TypeFacts, FieldFaults.width}
 use Rattle.btf_types.specs.Sections.{SectionWords, records_in}
-use Rattle.btf_types.proofs.{Lists.zip_at, Members.Has, Spelled.numbers, Spelled.info_parts, Spelled.kind_below, Spelled.vlen_below, Spelled.flag_below, SpelledItems.nothing, SpelledItems.no_tail, SpelledItems.counted}
+use Rattle.btf_types.proofs.{Lists.zip_at, Members.Has, Encoded.numbers, Encoded.info_parts, Encoded.kind_below, Encoded.vlen_below, Encoded.flag_below, EncodedItems.nothing, EncodedItems.no_tail, EncodedItems.counted}
 use Rattle.btf_types.proofs.{CheckLemmas.RoleSteps.named_words, FaultlessLemmas.FaultlessRecords.bit_fields_there, StringLemmas.Texts.Has-kept, StringLemmas.Texts.text_at_place}
 use Rattle.bpf_canon.specs.btf.CanonicalBtf.{canonical_flag, words_of_item, record_words}
-use Rattle.bpf_canon.proofs.BtfLemmas.CanonicalSpells.{flag_spells}
+use Rattle.bpf_canon.proofs.BtfLemmas.CanonicalEncodes.{flag_encodes}
 use Rattle.bpf_object.specs.Canonical.{strings_of, place_of}
 use Rattle.bpf_object.specs.Types.{TypesSection, form_rules, leads_to_name, is_reserved_section, is_flagged, head_rules, item_name, item_rules, named_items, record_rules, records_start, record_place, rules_of}
 use Rattle.bpf_object.specs.{TypesFaults.KeepsTypes, Lines.any_of}
-use Rattle.bpf_object.proofs.{CanonBtf.held_spell, CanonNames.has_mapped, CanonRules.rule_holds, ReadBackKinds.all_hold, ReadBackStrings.string_read, RecordLemmas.HasItem, RecordLemmas.item_there, RecordLemmas.some_width}
+use Rattle.bpf_object.proofs.{CanonBtf.held_encode, CanonNames.has_mapped, CanonRules.rule_holds, ReadBackKinds.all_hold, ReadBackStrings.string_read, RecordLemmas.HasItem, RecordLemmas.item_there, RecordLemmas.some_width}
 
 -- ---- names
 
@@ -51,10 +51,10 @@ place_leads xs (c ∷ cs) has none =
 abbrev pub is_reserved_record : TypeRecord → Bool
 is_reserved_record r = kind_number r.head == DATASEC && is_reserved (head_name r.head)
 
-reserved_is : (strings : List ℕ) (types : List TypeFacts) (r : TypeRecord) (f : List ℕ) → IsGoodRecord types r → Spells strings r f
+reserved_is : (strings : List ℕ) (types : List TypeFacts) (r : TypeRecord) (f : List ℕ) → IsValidRecord types r → Encodes strings r f
     → is_reserved_section strings f ≡ is_reserved_record r
-reserved_is strings types r f good s =
-    let n = numbers strings types r f good s in
+reserved_is strings types r f valid s =
+    let n = numbers strings types r f valid s in
     let name : string_at strings (name_word f) ≡ head_name r.head =
     ap (λ (off : ℕ). string_at strings off) n.name ∙ string_read strings s.name_offset (head_name r.head) s.name.text in
     ap (λ (k : ℕ). k == DATASEC && is_reserved (string_at strings (name_word f))) n.kind
@@ -117,23 +117,23 @@ item_place place h (x ∷ xs) (suc k) of has lt =
 
 -- ---- a record
 
-module _ (xs : List (List ℕ)) (types : List TypeFacts) (r : TypeRecord) (good : IsGoodRecord types r) (has : (name : List ℕ) → Has (record_names r) name → Has xs name)
-    (s : Spells (strings_of xs) r (record_words (place_of xs) r)) (frame : IsFrame (record_words (place_of xs) r)) (back : record_of (strings_of xs) (record_words (place_of xs) r) ≡ r)
+module _ (xs : List (List ℕ)) (types : List TypeFacts) (r : TypeRecord) (valid : IsValidRecord types r) (has : (name : List ℕ) → Has (record_names r) name → Has xs name)
+    (s : Encodes (strings_of xs) r (record_words (place_of xs) r)) (frame : IsFrame (record_words (place_of xs) r)) (back : record_of (strings_of xs) (record_words (place_of xs) r) ≡ r)
     (free : is_reserved_record r ≡ false) (pos : ℕ) where
   abbrev f : List ℕ
   f = record_words (place_of xs) r
 
   named : (name : List ℕ) → Has (record_names r) name → leads_to_name (strings_of xs) (place_of xs name) ≡ true
-  named name there = place_leads xs name (has name there) (all_has IsName (record_names r) name good.names there).without_nul
+  named name there = place_leads xs name (has name there) (all_has IsName (record_names r) name valid.names there).without_nul
 
   kind_is : kind f ≡ kind_number r.head
-  kind_is = (numbers (strings_of xs) types r f good s).kind
+  kind_is = (numbers (strings_of xs) types r f valid s).kind
 
   flag_is : flag f ≡ canonical_flag r.head (has_bit_fields r)
   flag_is =
       let its = canonical_flag r.head (has_bit_fields r) in
-      (info_parts (kind_number r.head) (record_vlen r) its (kind_below r.head) (vlen_below r.head r.items good.items_fit)
-      (flag_below r.head its (flag_spells r.head (has_bit_fields r)))).flag
+      (info_parts (kind_number r.head) (record_vlen r) its (kind_below r.head) (vlen_below r.head r.items valid.items_fit)
+      (flag_below r.head its (flag_encodes r.head (has_bit_fields r)))).flag
 
   not_flagged : not (is_flagged f) ≡ true
   not_flagged =
@@ -153,7 +153,7 @@ module _ (xs : List (List ℕ)) (types : List TypeFacts) (r : TypeRecord) (good 
   head_kept : AllHold (head_rules (strings_of xs) pos f)
   head_kept =
       let leads : leads_to_name (strings_of xs) (name_word f) ≡ true = named (head_name r.head) (inl refl) in
-      let other : not (is_reserved_section (strings_of xs) f) ≡ true = ap not (reserved_is (strings_of xs) types r f good s ∙ free) in
+      let other : not (is_reserved_section (strings_of xs) f) ≡ true = ap not (reserved_is (strings_of xs) types r f valid s ∙ free) in
       rw (leads, other, not_flagged) refl
 
   named_kind : (k : ℕ) → HasItem f k → has_item_names (kind_number r.head) ≡ true
@@ -162,7 +162,7 @@ module _ (xs : List (List ℕ)) (types : List TypeFacts) (r : TypeRecord) (good 
   item_inside : (k : ℕ) → HasItem f k → k < length r.items
   item_inside k it =
       let low = it.low in
-      let vlen_is = (numbers (strings_of xs) types r f good s).vlen in
+      let vlen_is = (numbers (strings_of xs) types r f valid s).vlen in
       omega (arith, low, vlen_is, counted r.head r.items (named_words (kind_number r.head) (named_kind k it)))
 
   item_word : (k : ℕ) → k < named_items f → slice_index f (item_name f k) ≡ place_of xs (name_of_item (get_or r.items k nothing))
@@ -174,7 +174,7 @@ module _ (xs : List (List ℕ)) (types : List TypeFacts) (r : TypeRecord) (good 
       let at : item_name f k ≡ suc (suc (suc j)) = rw its (omega arith) in
       let rest : head_tail r.head ++ flat_map (words_of_item (place_of xs)) r.items ≡ flat_map (words_of_item (place_of xs)) r.items = rw (no_tail r.head some) refl in
       ap (λ (i : ℕ). slice_index f i) at ∙ ap (λ (t : List ℕ). get_or t j 0) rest
-      ∙ item_place (place_of xs) r.head r.items k good.items_of (named_kind k it) (item_inside k it)
+      ∙ item_place (place_of xs) r.head r.items k valid.items_of (named_kind k it) (item_inside k it)
 
   item_kept : (k : ℕ) → k < named_items f → AllHold (item_rules (strings_of xs) pos f k)
   item_kept k lt =
@@ -204,7 +204,7 @@ held_free x s keeps k lt =
     let rules = each_holds (length s.frames) k (rules_of (records_start x s) s) there (rest_hold (form_rules x s) (each (length s.frames) (rules_of (records_start x s) s)) keeps.rules) in
     let head = first_hold (head_rules s.strings pos f) (each (named_items f) (item_rules s.strings pos f)) rules in
     let other = (rule_holds _ _ _ (rule_holds _ _ _ head).1).0 in
-    let good = keeps.sections.denotes.good in
-    let spells = zip_at (Spells s.strings) (records_in s) s.frames k no_record [] (held_spell x.bytes s keeps.sections) lt in
-    sym (reserved_is s.strings (facts (records_in s)) (get_or (records_in s) k no_record) f (good.each k no_record lt) spells)
+    let valid = keeps.sections.denotes.valid in
+    let encodes = zip_at (Encodes s.strings) (records_in s) s.frames k no_record [] (held_encode x.bytes s keeps.sections) lt in
+    sym (reserved_is s.strings (facts (records_in s)) (get_or (records_in s) k no_record) f (valid.each k no_record lt) encodes)
     ∙ not-true (is_reserved_section s.strings f) other

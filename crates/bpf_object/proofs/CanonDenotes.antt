@@ -11,14 +11,14 @@ use Rattle.bpf_object.specs.Extension.{Section}
 use Rattle.bpf_object.specs.Groups.{function_groups, relocation_groups}
 use Rattle.bpf_object.specs.Lines.{extension_rules}
 use Rattle.bpf_object.proofs.ReadBackTests.{equal_test}
-use Rattle.bpf_object.proofs.CanonGood.{GoodObject, IsSmall}
+use Rattle.bpf_object.proofs.CanonValid.{ValidObject, IsSmall}
 use Rattle.bpf_object.proofs.CanonReads.{order_back, object_back}
 use Rattle.bpf_object.proofs.CanonSymbols.{canonical_is_elf}
-use Rattle.bpf_object.proofs.CanonAcceptedSymbols.{object_is_good}
+use Rattle.bpf_object.proofs.CanonAcceptedSymbols.{object_is_valid}
 use Rattle.bpf_object.proofs.CanonTypes.{types_back, no_types_back, extension_back, no_extension_back, no_extension_of_back}
 use Rattle.bpf_object.proofs.CanonBtfKept.{AreSmallTypes, small_types, canonical_words, strings_short, canonical_records, canonical_types_kept}
 use Rattle.bpf_object.proofs.CanonExtensionKept.{SaysExtension, written_section, extension_said}
-use Rattle.bpf_object.proofs.CanonHeld.{AreGoodTypes, types_are_good, no_functions, no_relocations}
+use Rattle.bpf_object.proofs.CanonHeld.{AreValidTypes, types_are_valid, no_functions, no_relocations}
 use Rattle.bpf_object.proofs.DenotesOne.{denotes_one}
 
 -- ---- what is_small says
@@ -53,7 +53,7 @@ both_none a b h =
     let both = and_parts (a == 0) (b == 0) (not-false (a == 0 && b == 0) h) in
     (eqb-true a 0 both.0, eqb-true b 0 both.1)
 
-module _ (x : Object) (good : GoodObject x) (small : IsSmall x) (t : ObjectTypes) (is : x.types ≡ Some t) (fit : AreSmallTypes x.order t) (types : AreGoodTypes t) where
+module _ (x : Object) (valid : ValidObject x) (small : IsSmall x) (t : ObjectTypes) (is : x.types ≡ Some t) (fit : AreSmallTypes x.order t) (types : AreValidTypes t) where
   abbrev strings : List ℕ
   strings = strings_of (types_strings t)
 
@@ -61,16 +61,16 @@ module _ (x : Object) (good : GoodObject x) (small : IsSmall x) (t : ObjectTypes
   with_extension : has_extension t ≡ true → SaysOf (canonical x) strings t
   with_extension has =
       let c = canonical x in
-      let here = extension_back x good small t is has in
+      let here = extension_back x valid small t is has in
       let bytes = extension_bytes x.order (place_of (types_strings t)) t in
       let some = here.some in
       let there : (extension_at c == 0) ≡ false = ne_eqb (extension_at c) 0 (λ e. omega (arith, e, some)) in
       let whole : (extension_of c strings).bytes ≡ bytes = ap (λ (y : Bool). if y then [] else content c (extension_at c)) there ∙ here.bytes_are in
       let start = offset c (extension_at c) in
-      let short = strings_short x good small t is fit types.records in
+      let short = strings_short x valid small t is fit types.records in
       let said = extension_said x.order start t types.extension short (fit.extension has) has in
       let same : written_section x.order start t types.extension short (fit.extension has) ≡ extension_of c strings =
-      same_section (record { order = x.order; start = start; bytes = bytes; strings = strings }) (extension_of c strings) (sym (order_back x good small)) refl (sym whole) refl in
+      same_section (record { order = x.order; start = start; bytes = bytes; strings = strings }) (extension_of c strings) (sym (order_back x valid small)) refl (sym whole) refl in
       let says : SaysExtension (extension_of c strings) t = subst (λ (s : Section). SaysExtension s t) same said in
       record {
         rules = subst (λ (y : Bool). AllHold (if y then [] else extension_rules (extension_of c strings))) (sym there) says.rules;
@@ -82,7 +82,7 @@ module _ (x : Object) (good : GoodObject x) (small : IsSmall x) (t : ObjectTypes
   without_extension : has_extension t ≡ false → SaysOf (canonical x) strings t
   without_extension none =
       let c = canonical x in
-      let at : (extension_at c == 0) ≡ true = equal_test (extension_at c) 0 (no_extension_of_back x good small t is none) in
+      let at : (extension_at c == 0) ≡ true = equal_test (extension_at c) 0 (no_extension_of_back x valid small t is none) in
       let empty : (extension_of c strings).bytes ≡ [] = ap (λ (y : Bool). if y then [] else content c (extension_at c)) at in
       let lengths = both_none (length t.functions) (length t.relocations) none in
       record {
@@ -101,39 +101,39 @@ module _ (x : Object) (good : GoodObject x) (small : IsSmall x) (t : ObjectTypes
 
   pub canonical_holds : HoldsTypes (canonical x) t
   canonical_holds =
-      let here = types_back x good small t is in
+      let here = types_back x valid small t is in
       let says = canonical_extension in
       record {
         sections = canonical_words x.order t;
         there = here.some;
-        types = canonical_types_kept x good small t is fit types.records types.free;
+        types = canonical_types_kept x valid small t is fit types.records types.free;
         extension = says.rules;
         whole =
-            same_types t (object_types (canonical_words x.order t) (extension_of (canonical x) strings)) (sym (canonical_records x good small t is fit types.records))
+            same_types t (object_types (canonical_words x.order t) (extension_of (canonical x) strings)) (sym (canonical_records x valid small t is fit types.records))
             (sym says.functions) (sym says.relocations);
       }
 
-no_types_are : (x : Object) → GoodObject x → IsSmall x → x.types ≡ None → TypesAre (canonical x) None
-no_types_are x good small is =
-    let none : (extension_at (canonical x) == 0) ≡ true = equal_test (extension_at (canonical x)) 0 (no_extension_back x good small is) in
-    (no_types_back x good small is, rw none refl)
+no_types_are : (x : Object) → ValidObject x → IsSmall x → x.types ≡ None → TypesAre (canonical x) None
+no_types_are x valid small is =
+    let none : (extension_at (canonical x) == 0) ≡ true = equal_test (extension_at (canonical x)) 0 (no_extension_back x valid small is) in
+    (no_types_back x valid small is, rw none refl)
 
 -- the types of the canonical file, if those of the file are these
-types_are : (b : List ℕ) (x : Object) → IsBytes b → GoodObject x → SmallParts x → (o : Option ObjectTypes) → x.types ≡ o → TypesAre b o → TypesAre (canonical x) o
-types_are b x bytes good small None is held = no_types_are x good small.file is
-types_are b x bytes good small (Some t) is held = canonical_holds x good small.file t is (small_types x t is small.types) (types_are_good b t bytes held)
+types_are : (b : List ℕ) (x : Object) → IsBytes b → ValidObject x → SmallParts x → (o : Option ObjectTypes) → x.types ≡ o → TypesAre b o → TypesAre (canonical x) o
+types_are b x bytes valid small None is held = no_types_are x valid small.file is
+types_are b x bytes valid small (Some t) is held = canonical_holds x valid small.file t is (small_types x t is small.types) (types_are_valid b t bytes held)
 
-pub denoted_good : (b : List ℕ) (x : Object) → IsBytes b → Denotes b x → GoodObject x
-denoted_good b x bytes d = subst GoodObject (sym d.whole) (object_is_good b bytes d.elf x.types)
+pub denoted_valid : (b : List ℕ) (x : Object) → IsBytes b → Denotes b x → ValidObject x
+denoted_valid b x bytes d = subst ValidObject (sym d.whole) (object_is_valid b bytes d.elf x.types)
 
 pub canonical_denotes : (b : List ℕ) (x : Object) → IsBytes b → Denotes b x → Denotes (canonical x) x
 canonical_denotes b x bytes d =
-    let good = denoted_good b x bytes d in
+    let valid = denoted_valid b x bytes d in
     let small = small_parts x d.small in
     record {
-      elf = canonical_is_elf x good small.file;
-      types = types_are b x bytes good small x.types refl d.types;
-      whole = sym (object_back x good small.file);
+      elf = canonical_is_elf x valid small.file;
+      types = types_are b x bytes valid small x.types refl d.types;
+      whole = sym (object_back x valid small.file);
       small = d.small;
     }
 

@@ -20,13 +20,13 @@ use Rattle.bpf_object.proofs.CanonNames.{has_left, has_right, has_mapped, name_r
 use Rattle.bpf_object.proofs.CanonBtfKept.{has_flat}
 use Rattle.bpf_object.proofs.CanonGroups.{FitsGroup, IsNamed, IsPartAt, groups_of_part, part_quarter, part_kept}
 use Rattle.bpf_object.proofs.CanonExtensionHead.{header_len_is, functions_offset, functions_len, functions_there, lines_offset, lines_len, lines_there, relocations_offset, relocations_len, relocations_there, head_kept}
-use Rattle.bpf_object.proofs.CanonExtensionGood.{no_function, no_core_relocation, IsGoodGroup, AreGoodFunctions, AreGoodRelocations}
+use Rattle.bpf_object.proofs.CanonExtensionValid.{no_function, no_core_relocation, IsValidGroup, AreValidFunctions, AreValidRelocations}
 use Rattle.bpf_object.proofs.CanonExtensionRecords.{function_size, line_size, relocation_size, AtFunctions, AtLines, AtRelocations, IsRead, AreNoted, functions_back, pairs_kept, relocations_back, accesses_kept}
 
 -- what .BTF.ext says of code keeps the rules
-pub record IsGoodExtension (t : ObjectTypes) : Type 0 where
-  pub functions : All AreGoodFunctions t.functions
-  pub relocations : All AreGoodRelocations t.relocations
+pub record IsValidExtension (t : ObjectTypes) : Type 0 where
+  pub functions : All AreValidFunctions t.functions
+  pub relocations : All AreValidRelocations t.relocations
 
 -- a section that keeps the rules and says the same
 pub record SaysExtension (x : Section) (t : ObjectTypes) : Type 0 where
@@ -48,15 +48,15 @@ relocation_string_there t i d name lt h =
     has_right (names t.records) (extension_strings t) name
     (has_right (flat_map function_strings t.functions) (flat_map relocation_strings t.relocations) name (has_flat relocation_strings t.relocations i d name lt h))
 
--- a good group whose name is among these strings
-record IsGoodName {R : Type 0} (xs : List (List ℕ)) (gr : Group R) : Type 0 where
-  group : IsGoodGroup gr
+-- a valid group whose name is among these strings
+record IsValidName {R : Type 0} (xs : List (List ℕ)) (gr : Group R) : Type 0 where
+  group : IsValidGroup gr
   has : Has xs gr.section
 
-group_fits : {R : Type 0} (xs : List (List ℕ)) → length (strings_of xs) ≤ STRINGS_LIMIT → (gr : Group R) → IsGoodName xs gr → FitsGroup (place_of xs) gr
+group_fits : {R : Type 0} (xs : List (List ℕ)) → length (strings_of xs) ≤ STRINGS_LIMIT → (gr : Group R) → IsValidName xs gr → FitsGroup (place_of xs) gr
 group_fits xs short gr its = record { name = omega (arith, short, name_inside xs gr.section its.has its.group.section); few = its.group.few }
 
-group_named : {R : Type 0} (xs : List (List ℕ)) (gr : Group R) → IsGoodName xs gr → IsNamed (place_of xs) (strings_of xs) gr
+group_named : {R : Type 0} (xs : List (List ℕ)) (gr : Group R) → IsValidName xs gr → IsNamed (place_of xs) (strings_of xs) gr
 group_named xs gr its =
     let place = place_of xs gr.section in
     let short = its.group.short in
@@ -79,7 +79,7 @@ some_bytes : {R : Type 0} (o : Order) (size : ℕ) (bytes : Group R → List ℕ
 some_bytes o size bytes [] some = absurd (omega (arith, some))
 some_bytes o size bytes (g ∷ gs) some = omega (arith, length-append (word32 o size) (flat_map bytes (g ∷ gs)), length-word32 o size)
 
-module _ (o : Order) (start : ℕ) (t : ObjectTypes) (good : IsGoodExtension t) (strings_fit : length (strings_of (types_strings t)) ≤ STRINGS_LIMIT)
+module _ (o : Order) (start : ℕ) (t : ObjectTypes) (valid : IsValidExtension t) (strings_fit : length (strings_of (types_strings t)) ≤ STRINGS_LIMIT)
     (short : length (extension_bytes o (place_of (types_strings t)) t) ≤ FILE_LIMIT) where
   abbrev xs : List (List ℕ)
   xs = types_strings t
@@ -108,31 +108,31 @@ module _ (o : Order) (start : ℕ) (t : ObjectTypes) (good : IsGoodExtension t) 
 
   -- ---- the names of groups
 
-  function_name_good : (i : ℕ) (d : Group Function) → i < length t.functions → IsGoodName xs (get_or t.functions i d)
-  function_name_good i d lt = record { group = (good.functions i d lt).group; has = function_name_there t i d lt }
+  function_name_valid : (i : ℕ) (d : Group Function) → i < length t.functions → IsValidName xs (get_or t.functions i d)
+  function_name_valid i d lt = record { group = (valid.functions i d lt).group; has = function_name_there t i d lt }
 
-  relocation_name_good : (i : ℕ) (d : Group CoreRelocation) → i < length t.relocations → IsGoodName xs (get_or t.relocations i d)
-  relocation_name_good i d lt =
+  relocation_name_valid : (i : ℕ) (d : Group CoreRelocation) → i < length t.relocations → IsValidName xs (get_or t.relocations i d)
+  relocation_name_valid i d lt =
       let gr = get_or t.relocations i d in
-      record { group = (good.relocations i d lt).group; has = relocation_string_there t i d gr.section lt (inl refl) }
+      record { group = (valid.relocations i d lt).group; has = relocation_string_there t i d gr.section lt (inl refl) }
 
   functions_fit : All (FitsGroup place) t.functions
-  functions_fit i d lt = group_fits xs strings_fit (get_or t.functions i d) (function_name_good i d lt)
+  functions_fit i d lt = group_fits xs strings_fit (get_or t.functions i d) (function_name_valid i d lt)
 
   relocations_fit : All (FitsGroup place) t.relocations
-  relocations_fit i d lt = group_fits xs strings_fit (get_or t.relocations i d) (relocation_name_good i d lt)
+  relocations_fit i d lt = group_fits xs strings_fit (get_or t.relocations i d) (relocation_name_valid i d lt)
 
   functions_named : All (IsNamed place strings) t.functions
-  functions_named i d lt = group_named xs (get_or t.functions i d) (function_name_good i d lt)
+  functions_named i d lt = group_named xs (get_or t.functions i d) (function_name_valid i d lt)
 
   relocations_named : All (IsNamed place strings) t.relocations
-  relocations_named i d lt = group_named xs (get_or t.relocations i d) (relocation_name_good i d lt)
+  relocations_named i d lt = group_named xs (get_or t.relocations i d) (relocation_name_valid i d lt)
 
   functions_read : All (λ gr. IsRead x place gr.section) t.functions
-  functions_read i d lt = let its = function_name_good i d lt in name_reads xs (get_or t.functions i d).section its.has its.group.section
+  functions_read i d lt = let its = function_name_valid i d lt in name_reads xs (get_or t.functions i d).section its.has its.group.section
 
   relocations_read : All (λ gr. IsRead x place gr.section) t.relocations
-  relocations_read i d lt = let its = relocation_name_good i d lt in name_reads xs (get_or t.relocations i d).section its.has its.group.section
+  relocations_read i d lt = let its = relocation_name_valid i d lt in name_reads xs (get_or t.relocations i d).section its.has its.group.section
 
   access_there : (i : ℕ) (d : Group CoreRelocation) → i < length t.relocations → (k : ℕ) → k < length (get_or t.relocations i d).records
       → Has xs (get_or (get_or t.relocations i d).records k no_core_relocation).access
@@ -143,9 +143,9 @@ module _ (o : Order) (start : ℕ) (t : ObjectTypes) (good : IsGoodExtension t) 
   accesses_noted : All (AreNoted x place) t.relocations
   accesses_noted i d lt = record {
     inside = λ k there.
-        name_inside xs (get_or (get_or t.relocations i d).records k no_core_relocation).access (access_there i d lt k there) ((good.relocations i d lt).each k there).access;
+        name_inside xs (get_or (get_or t.relocations i d).records k no_core_relocation).access (access_there i d lt k there) ((valid.relocations i d lt).each k there).access;
     read = λ k there.
-        name_reads xs (get_or (get_or t.relocations i d).records k no_core_relocation).access (access_there i d lt k there) ((good.relocations i d lt).each k there).access;
+        name_reads xs (get_or (get_or t.relocations i d).records k no_core_relocation).access (access_there i d lt k there) ((valid.relocations i d lt).each k there).access;
   }
 
   -- ---- the parts
@@ -230,8 +230,8 @@ module _ (o : Order) (start : ℕ) (t : ObjectTypes) (good : IsGoodExtension t) 
   last_kept : AllHold (pairs_rules x (groups x Functions) (groups x Lines) ++ accesses_rules x (groups x Relocations))
   last_kept =
       both_hold (pairs_rules x (groups x Functions) (groups x Lines)) (accesses_rules x (groups x Relocations))
-      (pairs_kept x place t.functions (groups x Functions) (groups x Lines) good.functions function_places line_places)
-      (accesses_kept x place strings_low t.relocations (groups x Relocations) good.relocations accesses_noted relocation_places)
+      (pairs_kept x place t.functions (groups x Functions) (groups x Lines) valid.functions function_places line_places)
+      (accesses_kept x place strings_low t.relocations (groups x Relocations) valid.relocations accesses_noted relocation_places)
 
   pub extension_said : has_extension t ≡ true → SaysExtension written_section t
   extension_said has =
@@ -242,6 +242,6 @@ module _ (o : Order) (start : ℕ) (t : ObjectTypes) (good : IsGoodExtension t) 
             both_hold (head_rules x) (part_rules x Functions ++ (part_rules x Lines ++ (part_rules x Relocations ++ last))) head
             (both_hold (part_rules x Functions) (part_rules x Lines ++ (part_rules x Relocations ++ last)) functions_kept
             (both_hold (part_rules x Lines) (part_rules x Relocations ++ last) lines_kept (both_hold (part_rules x Relocations) last relocations_kept last_kept)));
-        functions = functions_back x place t.functions (groups x Functions) good.functions functions_read function_places;
-        relocations = relocations_back x place strings_low t.relocations (groups x Relocations) good.relocations relocations_read accesses_noted relocation_places;
+        functions = functions_back x place t.functions (groups x Functions) valid.functions functions_read function_places;
+        relocations = relocations_back x place strings_low t.relocations (groups x Relocations) valid.relocations relocations_read accesses_noted relocation_places;
       }

@@ -19,7 +19,7 @@ use Rattle.bpf_object.specs.Groups.{function_at, relocation_at, function_group, 
 use Rattle.bpf_object.specs.Kept.{listed}
 use Rattle.bpf_object.specs.Lines.{name_of, insn_off, all_of, ascends, has_line, have_lines, is_pair, pairs_rules, access_rules, accesses_rules}
 use Rattle.bpf_object.proofs.{CanonLists.listed_is, CanonLists.number_all, ReadBackKinds.all_hold, ReadBackTests.equal_test, ReadBackTests.less_test, TestLemmas.any_found}
-use Rattle.bpf_object.proofs.CanonExtensionGood.{no_function, no_core_relocation, ascends_is, AreGoodFunctions, IsGoodCore, AreGoodRelocations}
+use Rattle.bpf_object.proofs.CanonExtensionValid.{no_function, no_core_relocation, ascends_is, AreValidFunctions, IsValidCore, AreValidRelocations}
 use Rattle.bpf_object.proofs.CanonGroups.{IsGroupAt}
 use Rattle.bpf_object.proofs.ReadBackWords.{HasBytes, has_first, has_rest, read_32}
 
@@ -76,24 +76,24 @@ module _ (x : Section) (place : List ℕ → ℕ) where
 
   -- ---- functions and lines
 
-  function_offset : (gr : Group Function) (g : ℕ) → AreGoodFunctions gr → AtFunctions gr g → (k : ℕ) → k < length gr.records
+  function_offset : (gr : Group Function) (g : ℕ) → AreValidFunctions gr → AtFunctions gr g → (k : ℕ) → k < length gr.records
       → insn_off x Functions g k ≡ (get_or gr.records k no_function).offset
-  function_offset gr g good at k lt =
+  function_offset gr g valid at k lt =
       let f = get_or gr.records k no_function in
       let here = at.rows k lt in
-      read_32 x.order x.bytes (record_place Functions g k) f.offset (has_first x.bytes (record_place Functions g k) (word32 x.order f.offset) (word32 x.order f.type) here) (good.each k lt).offset
+      read_32 x.order x.bytes (record_place Functions g k) f.offset (has_first x.bytes (record_place Functions g k) (word32 x.order f.offset) (word32 x.order f.type) here) (valid.each k lt).offset
 
-  function_type : (gr : Group Function) (g : ℕ) → AreGoodFunctions gr → AtFunctions gr g → (k : ℕ) → k < length gr.records
+  function_type : (gr : Group Function) (g : ℕ) → AreValidFunctions gr → AtFunctions gr g → (k : ℕ) → k < length gr.records
       → word x (record_place Functions g k + 4) ≡ (get_or gr.records k no_function).type
-  function_type gr g good at k lt =
+  function_type gr g valid at k lt =
       let f = get_or gr.records k no_function in
       let here = at.rows k lt in
       read_32 x.order x.bytes (record_place Functions g k + 4) f.type
-      (has_rest x.bytes (record_place Functions g k) 4 (word32 x.order f.offset) (word32 x.order f.type) here (length-word32 x.order f.offset)) (good.each k lt).type
+      (has_rest x.bytes (record_place Functions g k) 4 (word32 x.order f.offset) (word32 x.order f.type) here (length-word32 x.order f.offset)) (valid.each k lt).type
 
-  line_offset : (gr : Group Function) (g : ℕ) → AreGoodFunctions gr → AtLines gr g → (k : ℕ) → k < length gr.records
+  line_offset : (gr : Group Function) (g : ℕ) → AreValidFunctions gr → AtLines gr g → (k : ℕ) → k < length gr.records
       → insn_off x Lines g k ≡ (get_or gr.records k no_function).offset
-  line_offset gr g good at k lt =
+  line_offset gr g valid at k lt =
       let f = get_or gr.records k no_function in
       let pos = record_place Lines g k in
       let first = word32 x.order f.offset in
@@ -101,31 +101,31 @@ module _ (x : Section) (place : List ℕ → ℕ) where
       let here = at.rows k lt in
       read_32 x.order x.bytes pos f.offset
       (has_first x.bytes pos first zero_word (has_first x.bytes pos (first ++ zero_word) zero_word (has_first x.bytes pos (first ++ zero_word ++ zero_word) zero_word here)))
-      (good.each k lt).offset
+      (valid.each k lt).offset
 
-  function_back : (gr : Group Function) (g : ℕ) → AreGoodFunctions gr → IsRead gr.section → AtFunctions gr g → function_group x g ≡ gr
-  function_back gr g good read at =
+  function_back : (gr : Group Function) (g : ℕ) → AreValidFunctions gr → IsRead gr.section → AtFunctions gr g → function_group x g ≡ gr
+  function_back gr g valid read at =
       same_group (function_group x g) gr (ap (λ (off : ℕ). string_at x.strings off) at.name ∙ read)
       (all_back (function_at x g) (group_count x g) gr.records no_function at.count
       (λ k lt.
-      same_function (function_at x g k) (get_or gr.records k no_function) (function_offset gr g good at k lt) (function_type gr g good at k lt)))
+      same_function (function_at x g k) (get_or gr.records k no_function) (function_offset gr g valid at k lt) (function_type gr g valid at k lt)))
 
-  pub functions_back : (gs : List (Group Function)) (places : List ℕ) → All AreGoodFunctions gs → All (λ gr. IsRead gr.section) gs → AllZip AtFunctions gs places
+  pub functions_back : (gs : List (Group Function)) (places : List ℕ) → All AreValidFunctions gs → All (λ gr. IsRead gr.section) gs → AllZip AtFunctions gs places
       → map (function_group x) places ≡ gs
-  functions_back [] [] good read at = refl
-  functions_back [] (g ∷ places) good read at = absurd at
-  functions_back (gr ∷ gs) [] good read at = absurd at
-  functions_back (gr ∷ gs) (g ∷ places) good read at =
-      let first = function_back gr g (All-head AreGoodFunctions gr gs good) (All-head (λ h. IsRead h.section) gr gs read) at.0 in
-      let rest = functions_back gs places (All-tail AreGoodFunctions gr gs good) (All-tail (λ h. IsRead h.section) gr gs read) at.1 in
+  functions_back [] [] valid read at = refl
+  functions_back [] (g ∷ places) valid read at = absurd at
+  functions_back (gr ∷ gs) [] valid read at = absurd at
+  functions_back (gr ∷ gs) (g ∷ places) valid read at =
+      let first = function_back gr g (All-head AreValidFunctions gr gs valid) (All-head (λ h. IsRead h.section) gr gs read) at.0 in
+      let rest = functions_back gs places (All-tail AreValidFunctions gr gs valid) (All-tail (λ h. IsRead h.section) gr gs read) at.1 in
       ap (λ (h : Group Function). h ∷ map (function_group x) places) first ∙ ap (λ (hs : List (Group Function)). gr ∷ hs) rest
 
-  pair_kept : (gr : Group Function) (f l : ℕ) → AreGoodFunctions gr → AtFunctions gr f → AtLines gr l → is_pair x f l ≡ true
-  pair_kept gr f l good at line =
+  pair_kept : (gr : Group Function) (f l : ℕ) → AreValidFunctions gr → AtFunctions gr f → AtLines gr l → is_pair x f l ≡ true
+  pair_kept gr f l valid at line =
       let name : bytes_eq (name_of x f) (name_of x l) ≡ true =
       ap (λ (off : ℕ). bytes_eq (string_at x.strings off) (name_of x l)) (at.name ∙ sym line.name) ∙ bytes_eq-same (name_of x l) in
-      let functions_ascend : ascends x Functions f ≡ true = ascends_is x Functions f gr.records at.count (function_offset gr f good at) ∙ good.ascend in
-      let lines_ascend : ascends x Lines l ≡ true = ascends_is x Lines l gr.records line.count (line_offset gr l good line) ∙ good.ascend in
+      let functions_ascend : ascends x Functions f ≡ true = ascends_is x Functions f gr.records at.count (function_offset gr f valid at) ∙ valid.ascend in
+      let lines_ascend : ascends x Lines l ≡ true = ascends_is x Lines l gr.records line.count (line_offset gr l valid line) ∙ valid.ascend in
       let functions_count = at.count in
       let lines_count = line.count in
       let lines : have_lines x f l ≡ true =
@@ -133,19 +133,19 @@ module _ (x : Section) (place : List ℕ → ℕ) where
       (λ k lt.
       any_found (group_count x l) k (λ j. insn_off x Lines l j == insn_off x Functions f k) (omega (arith, lt, functions_count, lines_count))
       (equal_test (insn_off x Lines l k) (insn_off x Functions f k)
-      (line_offset gr l good line k (omega (arith, lt, functions_count)) ∙ sym (function_offset gr f good at k (omega (arith, lt, functions_count)))))) in
+      (line_offset gr l valid line k (omega (arith, lt, functions_count)) ∙ sym (function_offset gr f valid at k (omega (arith, lt, functions_count)))))) in
       and_from (bytes_eq (name_of x f) (name_of x l)) (ascends x Functions f && (ascends x Lines l && have_lines x f l)) name
       (and_from (ascends x Functions f) (ascends x Lines l && have_lines x f l) functions_ascend (and_from (ascends x Lines l) (have_lines x f l) lines_ascend lines))
 
-  pub pairs_kept : (gs : List (Group Function)) (fs ls : List ℕ) → All AreGoodFunctions gs → AllZip AtFunctions gs fs → AllZip AtLines gs ls → AllHold (pairs_rules x fs ls)
-  pairs_kept [] [] [] good at lines = refl
-  pairs_kept [] [] (l ∷ ls) good at lines = absurd lines
-  pairs_kept [] (f ∷ fs) ls good at lines = absurd at
-  pairs_kept (gr ∷ gs) [] ls good at lines = absurd at
-  pairs_kept (gr ∷ gs) (f ∷ fs) [] good at lines = absurd lines
-  pairs_kept (gr ∷ gs) (f ∷ fs) (l ∷ ls) good at lines =
-      let pair = pair_kept gr f l (All-head AreGoodFunctions gr gs good) at.0 lines.0 in
-      rw pair (pairs_kept gs fs ls (All-tail AreGoodFunctions gr gs good) at.1 lines.1)
+  pub pairs_kept : (gs : List (Group Function)) (fs ls : List ℕ) → All AreValidFunctions gs → AllZip AtFunctions gs fs → AllZip AtLines gs ls → AllHold (pairs_rules x fs ls)
+  pairs_kept [] [] [] valid at lines = refl
+  pairs_kept [] [] (l ∷ ls) valid at lines = absurd lines
+  pairs_kept [] (f ∷ fs) ls valid at lines = absurd at
+  pairs_kept (gr ∷ gs) [] ls valid at lines = absurd at
+  pairs_kept (gr ∷ gs) (f ∷ fs) [] valid at lines = absurd lines
+  pairs_kept (gr ∷ gs) (f ∷ fs) (l ∷ ls) valid at lines =
+      let pair = pair_kept gr f l (All-head AreValidFunctions gr gs valid) at.0 lines.0 in
+      rw pair (pairs_kept gs fs ls (All-tail AreValidFunctions gr gs valid) at.1 lines.1)
 
   -- ---- CO-RE relocations
 
@@ -160,8 +160,8 @@ module _ (x : Section) (place : List ℕ → ℕ) where
     access : word x (pos + 8) ≡ place r.access
     kind : word x (pos + 12) ≡ r.kind
 
-  core_there : (r : CoreRelocation) (pos : ℕ) → IsGoodCore r → place r.access < 2 ^ 32 → HasBytes x.bytes pos (relocation_bytes x.order place r) → IsCoreAt r pos
-  core_there r pos good low h =
+  core_there : (r : CoreRelocation) (pos : ℕ) → IsValidCore r → place r.access < 2 ^ 32 → HasBytes x.bytes pos (relocation_bytes x.order place r) → IsCoreAt r pos
+  core_there r pos valid low h =
       let a = word32 x.order r.offset in
       let b = word32 x.order r.type in
       let c = word32 x.order (place r.access) in
@@ -171,52 +171,52 @@ module _ (x : Section) (place : List ℕ → ℕ) where
       let two_size : length (a ++ b) ≡ 8 = omega (arith, length-append a b, length-word32 x.order r.offset, length-word32 x.order r.type) in
       let three_size : length (a ++ b ++ c) ≡ 12 = omega (arith, two_size, length-append (a ++ b) c, length-word32 x.order (place r.access)) in
       record {
-        offset = read_32 x.order x.bytes pos r.offset (has_first x.bytes pos a b two) good.offset;
-        type = read_32 x.order x.bytes (pos + 4) r.type (has_rest x.bytes pos 4 a b two (length-word32 x.order r.offset)) good.type;
+        offset = read_32 x.order x.bytes pos r.offset (has_first x.bytes pos a b two) valid.offset;
+        type = read_32 x.order x.bytes (pos + 4) r.type (has_rest x.bytes pos 4 a b two (length-word32 x.order r.offset)) valid.type;
         access = read_32 x.order x.bytes (pos + 8) (place r.access) (has_rest x.bytes pos 8 (a ++ b) c three two_size) low;
-        kind = read_32 x.order x.bytes (pos + 12) r.kind (has_rest x.bytes pos 12 (a ++ b ++ c) e h three_size) good.kind;
+        kind = read_32 x.order x.bytes (pos + 12) r.kind (has_rest x.bytes pos 12 (a ++ b ++ c) e h three_size) valid.kind;
       }
 
   module _ (short : length x.strings < 2 ^ 32) where
-    core_at : (gr : Group CoreRelocation) (g : ℕ) → AreGoodRelocations gr → AreNoted gr → AtRelocations gr g → (k : ℕ) → k < length gr.records
+    core_at : (gr : Group CoreRelocation) (g : ℕ) → AreValidRelocations gr → AreNoted gr → AtRelocations gr g → (k : ℕ) → k < length gr.records
         → IsCoreAt (get_or gr.records k no_core_relocation) (record_place Relocations g k)
-    core_at gr g good noted at k lt =
+    core_at gr g valid noted at k lt =
         let inside = noted.inside k lt in
-        core_there (get_or gr.records k no_core_relocation) (record_place Relocations g k) (good.each k lt) (omega (arith, short, inside)) (at.rows k lt)
+        core_there (get_or gr.records k no_core_relocation) (record_place Relocations g k) (valid.each k lt) (omega (arith, short, inside)) (at.rows k lt)
 
-    relocation_back : (gr : Group CoreRelocation) (g : ℕ) → AreGoodRelocations gr → IsRead gr.section → AreNoted gr → AtRelocations gr g → relocation_group x g ≡ gr
-    relocation_back gr g good read noted at =
+    relocation_back : (gr : Group CoreRelocation) (g : ℕ) → AreValidRelocations gr → IsRead gr.section → AreNoted gr → AtRelocations gr g → relocation_group x g ≡ gr
+    relocation_back gr g valid read noted at =
         same_group (relocation_group x g) gr (ap (λ (off : ℕ). string_at x.strings off) at.name ∙ read)
         (all_back (relocation_at x g) (group_count x g) gr.records no_core_relocation at.count
         (λ k lt.
-        let here = core_at gr g good noted at k lt in
+        let here = core_at gr g valid noted at k lt in
         same_core (relocation_at x g k) (get_or gr.records k no_core_relocation) here.offset here.type (ap (λ (off : ℕ). string_at x.strings off) here.access ∙ noted.read k lt) here.kind))
 
-    pub relocations_back : (gs : List (Group CoreRelocation)) (places : List ℕ) → All AreGoodRelocations gs → All (λ gr. IsRead gr.section) gs → All AreNoted gs
+    pub relocations_back : (gs : List (Group CoreRelocation)) (places : List ℕ) → All AreValidRelocations gs → All (λ gr. IsRead gr.section) gs → All AreNoted gs
         → AllZip AtRelocations gs places → map (relocation_group x) places ≡ gs
-    relocations_back [] [] good read noted at = refl
-    relocations_back [] (g ∷ places) good read noted at = absurd at
-    relocations_back (gr ∷ gs) [] good read noted at = absurd at
-    relocations_back (gr ∷ gs) (g ∷ places) good read noted at =
-        let first = relocation_back gr g (All-head AreGoodRelocations gr gs good) (All-head (λ h. IsRead h.section) gr gs read) (All-head AreNoted gr gs noted) at.0 in
-        let rest = relocations_back gs places (All-tail AreGoodRelocations gr gs good) (All-tail (λ h. IsRead h.section) gr gs read) (All-tail AreNoted gr gs noted) at.1 in
+    relocations_back [] [] valid read noted at = refl
+    relocations_back [] (g ∷ places) valid read noted at = absurd at
+    relocations_back (gr ∷ gs) [] valid read noted at = absurd at
+    relocations_back (gr ∷ gs) (g ∷ places) valid read noted at =
+        let first = relocation_back gr g (All-head AreValidRelocations gr gs valid) (All-head (λ h. IsRead h.section) gr gs read) (All-head AreNoted gr gs noted) at.0 in
+        let rest = relocations_back gs places (All-tail AreValidRelocations gr gs valid) (All-tail (λ h. IsRead h.section) gr gs read) (All-tail AreNoted gr gs noted) at.1 in
         ap (λ (h : Group CoreRelocation). h ∷ map (relocation_group x) places) first ∙ ap (λ (hs : List (Group CoreRelocation)). gr ∷ hs) rest
 
-    access_kept : (gr : Group CoreRelocation) (g : ℕ) → AreGoodRelocations gr → AreNoted gr → AtRelocations gr g → (k : ℕ) → k < group_count x g → AllHold (access_rules x g k)
-    access_kept gr g good noted at k lt =
+    access_kept : (gr : Group CoreRelocation) (g : ℕ) → AreValidRelocations gr → AreNoted gr → AtRelocations gr g → (k : ℕ) → k < group_count x g → AllHold (access_rules x g k)
+    access_kept gr g valid noted at k lt =
         let count = at.count in
         let there : k < length gr.records = omega (arith, lt, count) in
         let inside = noted.inside k there in
-        let here = (core_at gr g good noted at k there).access in
+        let here = (core_at gr g valid noted at k there).access in
         let low : nat_lt (word x (record_place Relocations g k + 8)) (length x.strings) ≡ true =
         less_test (word x (record_place Relocations g k + 8)) (length x.strings) (omega (arith, here, inside)) in
         rw low refl
 
-    pub accesses_kept : (gs : List (Group CoreRelocation)) (places : List ℕ) → All AreGoodRelocations gs → All AreNoted gs → AllZip AtRelocations gs places → AllHold (accesses_rules x places)
-    accesses_kept [] [] good noted at = refl
-    accesses_kept [] (g ∷ places) good noted at = absurd at
-    accesses_kept (gr ∷ gs) [] good noted at = absurd at
-    accesses_kept (gr ∷ gs) (g ∷ places) good noted at =
+    pub accesses_kept : (gs : List (Group CoreRelocation)) (places : List ℕ) → All AreValidRelocations gs → All AreNoted gs → AllZip AtRelocations gs places → AllHold (accesses_rules x places)
+    accesses_kept [] [] valid noted at = refl
+    accesses_kept [] (g ∷ places) valid noted at = absurd at
+    accesses_kept (gr ∷ gs) [] valid noted at = absurd at
+    accesses_kept (gr ∷ gs) (g ∷ places) valid noted at =
         both_hold (each (group_count x g) (access_rules x g)) (accesses_rules x places)
-        (all_hold (group_count x g) (access_rules x g) (access_kept gr g (All-head AreGoodRelocations gr gs good) (All-head AreNoted gr gs noted) at.0))
-        (accesses_kept gs places (All-tail AreGoodRelocations gr gs good) (All-tail AreNoted gr gs noted) at.1)
+        (all_hold (group_count x g) (access_rules x g) (access_kept gr g (All-head AreValidRelocations gr gs valid) (All-head AreNoted gr gs noted) at.0))
+        (accesses_kept gs places (All-tail AreValidRelocations gr gs valid) (All-tail AreNoted gr gs noted) at.1)

@@ -14,7 +14,7 @@ use Rattle.bpf_object.proofs.ReadBackLayout.{content_there, length-file_of}
 use Rattle.bpf_object.proofs.ReadBackFile.{FieldsFit, IsWritable}
 use Rattle.bpf_object.proofs.ReadBackRows.{length-rows, flat_map_rows}
 use Rattle.bpf_object.proofs.ReadBackTables.{length-relocation_row, length-symbol_row}
-use Rattle.bpf_object.proofs.CanonGood.{section_of, no_relocation, no_symbol, IsGoodData, IsGoodTable, IsGoodSection, GoodObject, IsSmall}
+use Rattle.bpf_object.proofs.CanonValid.{section_of, no_relocation, no_symbol, IsValidData, IsValidTable, IsValidSection, ValidObject, IsSmall}
 use Rattle.bpf_object.proofs.CanonNames.{name_table, name_place, file_name_inside, section_name_there}
 use Rattle.bpf_object.proofs.CanonRows.{section_rows, row_count, canonical_is, symtab_row, kept_row, own_name, own_kind, own_count, IsOwnRow, row_count_is, own_row_is, symtab_is, strtab_is}
 
@@ -81,54 +81,54 @@ module _ (x : Object) (small : IsSmall x) where
       omega (arith, ap (λ (w : WrittenSection). length w.content) (symtab_is x), length-symbol_bytes x.order (name_place x) x.symbols, short)
 
   -- the place of a name is a word
-  pub place_fits : (i : ℕ) → i < length x.sections → IsGoodSection x (section_of x i) → name_place x (section_of x i).name < 2 ^ 32
-  place_fits i lt good = omega (arith, file_name_inside x (section_of x i).name (section_name_there x i lt) good.name, table_short)
+  pub place_fits : (i : ℕ) → i < length x.sections → IsValidSection x (section_of x i) → name_place x (section_of x i).name < 2 ^ 32
+  place_fits i lt valid = omega (arith, file_name_inside x (section_of x i).name (section_name_there x i lt) valid.name, table_short)
 
   own_place_fits : (w : WrittenSection) (k : ℕ) → IsOwnRow x w (own_name x k) (own_kind x k) → name_place x (own_name x k) < 2 ^ 32
   own_place_fits w k its = omega (arith, file_name_inside x (own_name x k) its.there its.without_nul, table_short)
 
 -- ---- the fields of a section that is kept
 
-data_content : (o : Order) (s : KeptSection) → IsGoodData s → length (s.content ++ flat_map (row_bytes o) s.relocations) ≡ (if s.type == SHT_NOBITS then 0 else s.size)
-data_content o s good =
-    ap (λ (rs : List KeptRelocation). length (s.content ++ flat_map (row_bytes o) rs)) good.relocations ∙ ap length (append-nil s.content) ∙ good.content
+data_content : (o : Order) (s : KeptSection) → IsValidData s → length (s.content ++ flat_map (row_bytes o) s.relocations) ≡ (if s.type == SHT_NOBITS then 0 else s.size)
+data_content o s valid =
+    ap (λ (rs : List KeptRelocation). length (s.content ++ flat_map (row_bytes o) rs)) valid.relocations ∙ ap length (append-nil s.content) ∙ valid.content
 
-pub table_bits : (x : Object) (s : KeptSection) → IsGoodTable x s → (s.type == SHT_NOBITS) ≡ false
-table_bits x s good = ap (λ (t : ℕ). t == SHT_NOBITS) (relocations_type s.type s.name s.flags good.kind)
+pub table_bits : (x : Object) (s : KeptSection) → IsValidTable x s → (s.type == SHT_NOBITS) ≡ false
+table_bits x s valid = ap (λ (t : ℕ). t == SHT_NOBITS) (relocations_type s.type s.name s.flags valid.kind)
 
-table_content : (x : Object) (o : Order) (s : KeptSection) → IsGoodTable x s → length (s.content ++ flat_map (row_bytes o) s.relocations) ≡ (if s.type == SHT_NOBITS then 0 else s.size)
-table_content x o s good =
-    ap (λ (c : List ℕ). length (c ++ flat_map (row_bytes o) s.relocations)) good.content ∙ length-row_bytes o s.relocations ∙ sym good.size
-    ∙ sym (ap (λ (y : Bool). if y then 0 else s.size) (table_bits x s good))
+table_content : (x : Object) (o : Order) (s : KeptSection) → IsValidTable x s → length (s.content ++ flat_map (row_bytes o) s.relocations) ≡ (if s.type == SHT_NOBITS then 0 else s.size)
+table_content x o s valid =
+    ap (λ (c : List ℕ). length (c ++ flat_map (row_bytes o) s.relocations)) valid.content ∙ length-row_bytes o s.relocations ∙ sym valid.size
+    ∙ sym (ap (λ (y : Bool). if y then 0 else s.size) (table_bits x s valid))
 
-kept_content : (x : Object) (o : Order) (s : KeptSection) → IsGoodData s ⊎ IsGoodTable x s → length (s.content ++ flat_map (row_bytes o) s.relocations) ≡ (if s.type == SHT_NOBITS then 0 else s.size)
-kept_content x o s (inl good) = data_content o s good
-kept_content x o s (inr good) = table_content x o s good
+kept_content : (x : Object) (o : Order) (s : KeptSection) → IsValidData s ⊎ IsValidTable x s → length (s.content ++ flat_map (row_bytes o) s.relocations) ≡ (if s.type == SHT_NOBITS then 0 else s.size)
+kept_content x o s (inl valid) = data_content o s valid
+kept_content x o s (inr valid) = table_content x o s valid
 
-target_fits : (x : Object) (s : KeptSection) → IsGoodData s ⊎ IsGoodTable x s → s.target ≤ length x.sections
-target_fits x s (inl good) = omega (arith, good.target)
-target_fits x s (inr good) = good.target.there
+target_fits : (x : Object) (s : KeptSection) → IsValidData s ⊎ IsValidTable x s → s.target ≤ length x.sections
+target_fits x s (inl valid) = omega (arith, valid.target)
+target_fits x s (inr valid) = valid.target.there
 
 link_fits : (y : Bool) (n : ℕ) → n < 2 ^ 32 → (if y then n else 0) < 2 ^ 32
 link_fits true n lt = lt
 link_fits false n lt = omega arith
 
 module _ (x : Object) (small : IsSmall x) where
-  kept_fits : (i : ℕ) → i < length x.sections → IsGoodSection x (section_of x i) → FieldsFit (section_rows x i)
-  kept_fits i lt good =
+  kept_fits : (i : ℕ) → i < length x.sections → IsValidSection x (section_of x i) → FieldsFit (section_rows x i)
+  kept_fits i lt valid =
       let few = few_rows x small in
       let s = section_of x i in
       subst FieldsFit (sym (kept_row x i lt)) (record {
-        name_offset = place_fits x small i lt good;
-        type = good.type;
-        flags = good.flags;
-        address = good.address;
-        size = good.size;
+        name_offset = place_fits x small i lt valid;
+        type = valid.type;
+        flags = valid.flags;
+        address = valid.address;
+        size = valid.size;
         link = link_fits (s.type == SHT_REL) (symtab_number x) (omega (arith, few));
-        info = omega (arith, few, target_fits x s good.kept);
-        alignment = good.alignment;
-        entry_size = good.entry_size;
-        content = kept_content x x.order s good.kept;
+        info = omega (arith, few, target_fits x s valid.kept);
+        alignment = valid.alignment;
+        entry_size = valid.entry_size;
+        content = kept_content x x.order s valid.kept;
       })
 
   own_fits : (w : WrittenSection) (k : ℕ) → IsOwnRow x w (own_name x k) (own_kind x k) → length w.content ≤ 67108864 → FieldsFit w
@@ -156,9 +156,9 @@ module _ (x : Object) (small : IsSmall x) where
         content = sym size ∙ sym (ap (λ (y : Bool). if y then 0 else w.size) (other_type w.type type));
       }
 
-  row_fits : GoodObject x → (i : ℕ) → i < row_count x → FieldsFit (section_rows x i)
-  row_fits good i lt = elim (split_row x i lt) [
-    | inl kept ↦ kept_fits i kept (good.sections i kept)
+  row_fits : ValidObject x → (i : ℕ) → i < row_count x → FieldsFit (section_rows x i)
+  row_fits valid i lt = elim (split_row x i lt) [
+    | inl kept ↦ kept_fits i kept (valid.sections i kept)
     | inr own ↦
         subst (λ (k : ℕ). FieldsFit (section_rows x k)) own.2
         (own_fits (section_rows x (length x.sections + own.0)) own.0 (own_row_is x own.0 own.1)
@@ -166,15 +166,15 @@ module _ (x : Object) (small : IsSmall x) where
   ]
 
   -- the canonical file can be written
-  pub is_writable : GoodObject x → IsWritable x.flags (section_rows x) (row_count x)
-  is_writable good =
+  pub is_writable : ValidObject x → IsWritable x.flags (section_rows x) (row_count x)
+  is_writable valid =
       let count = row_count_is x in
       let few = few_rows x small in
       let short = small.short in
       record {
         few = omega (arith, few, count);
         some = omega (arith, count);
-        flags_fit = good.flags;
+        flags_fit = valid.flags;
         short = omega (arith, short, file_length x small);
-        fields = row_fits good;
+        fields = row_fits valid;
       }

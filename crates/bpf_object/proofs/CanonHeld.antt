@@ -6,7 +6,7 @@ use Rattle.bpf_words.specs.{declared.Order.Order, declared.Order.TheVariants.Lit
 use Rattle.bpf_words.specs.Words.{IsBytes, word32_at}
 use Rattle.bpf_words.proofs.WordLemmas.{IsBytes-take, IsBytes-drop}
 use Rattle.bpf_elf.specs.{Numbers.offset, Rules.AllHold, Sections.content, Sections.file_size}
-use Rattle.btf_types.specs.{Good.IsGood}
+use Rattle.btf_types.specs.{Valid.IsValid}
 use Rattle.bpf_object.specs.declared.extension.Part.{Part, TheVariants.Functions, TheVariants.Relocations}
 use Rattle.bpf_object.specs.Objects.{ObjectTypes}
 use Rattle.bpf_object.specs.Denotes.{types_of, extension_at, extension_of, rules_of_extension, HoldsTypes}
@@ -15,8 +15,8 @@ use Rattle.bpf_object.specs.Groups.{function_group, relocation_group, function_g
 use Rattle.bpf_object.specs.Lines.{extension_rules}
 use Rattle.bpf_object.proofs.ReadBackTests.{equal_test}
 use Rattle.bpf_object.proofs.CanonBtfRules.{AreFree, held_free}
-use Rattle.bpf_object.proofs.CanonExtensionGood.{AreGoodFunctions, AreGoodRelocations, held_functions, held_relocations}
-use Rattle.bpf_object.proofs.CanonExtensionKept.{IsGoodExtension}
+use Rattle.bpf_object.proofs.CanonExtensionValid.{AreValidFunctions, AreValidRelocations, held_functions, held_relocations}
+use Rattle.bpf_object.proofs.CanonExtensionKept.{IsValidExtension}
 
 -- ---- an empty .BTF.ext
 
@@ -42,17 +42,17 @@ content_bytes : (b : List ℕ) (i : ℕ) → IsBytes b → IsBytes (content b i)
 content_bytes b i bytes = IsBytes-take (file_size b i) _ (IsBytes-drop (offset b i) b bytes)
 
 -- groups that keep the rules
-pub record AreGoodGroups (x : Section) : Type 0 where
-  pub functions : All AreGoodFunctions (function_groups x)
-  pub relocations : All AreGoodRelocations (relocation_groups x)
+pub record AreValidGroups (x : Section) : Type 0 where
+  pub functions : All AreValidFunctions (function_groups x)
+  pub relocations : All AreValidRelocations (relocation_groups x)
 
 module _ (b strings : List ℕ) (bytes : IsBytes b) where
-  with_section : (there : Bool) → (extension_at b == 0) ≡ there → AllHold (rules_of_extension b strings) → AreGoodGroups (extension_of b strings)
+  with_section : (there : Bool) → (extension_at b == 0) ≡ there → AllHold (rules_of_extension b strings) → AreValidGroups (extension_of b strings)
   with_section true none rules =
       let empty : (extension_of b strings).bytes ≡ [] = ap (λ (y : Bool). if y then [] else content b (extension_at b)) none in
       record {
-        functions = subst (All AreGoodFunctions) (sym (no_functions (extension_of b strings) empty)) (All-nil AreGoodFunctions);
-        relocations = subst (All AreGoodRelocations) (sym (no_relocations (extension_of b strings) empty)) (All-nil AreGoodRelocations);
+        functions = subst (All AreValidFunctions) (sym (no_functions (extension_of b strings) empty)) (All-nil AreValidFunctions);
+        relocations = subst (All AreValidRelocations) (sym (no_relocations (extension_of b strings) empty)) (All-nil AreValidRelocations);
       }
   with_section false some rules =
       let whole : (extension_of b strings).bytes ≡ content b (extension_at b) = ap (λ (y : Bool). if y then [] else content b (extension_at b)) some in
@@ -64,23 +64,23 @@ module _ (b strings : List ℕ) (bytes : IsBytes b) where
         relocations = held_relocations (extension_of b strings) fits keeps;
       }
 
-  pub good_groups : AllHold (rules_of_extension b strings) → AreGoodGroups (extension_of b strings)
-  good_groups rules = with_section (extension_at b == 0) refl rules
+  pub valid_groups : AllHold (rules_of_extension b strings) → AreValidGroups (extension_of b strings)
+  valid_groups rules = with_section (extension_at b == 0) refl rules
 
 -- ---- all types
 
-pub record AreGoodTypes (t : ObjectTypes) : Type 0 where
-  pub records : IsGood t.records
+pub record AreValidTypes (t : ObjectTypes) : Type 0 where
+  pub records : IsValid t.records
   pub free : AreFree t.records
-  pub extension : IsGoodExtension t
+  pub extension : IsValidExtension t
 
-pub types_are_good : (b : List ℕ) (t : ObjectTypes) → IsBytes b → HoldsTypes b t → AreGoodTypes t
-types_are_good b t bytes holds =
+pub types_are_valid : (b : List ℕ) (t : ObjectTypes) → IsBytes b → HoldsTypes b t → AreValidTypes t
+types_are_valid b t bytes holds =
     let s = holds.sections in
-    let groups = good_groups b s.strings bytes holds.extension in
-    subst AreGoodTypes (sym holds.whole)
+    let groups = valid_groups b s.strings bytes holds.extension in
+    subst AreValidTypes (sym holds.whole)
     (record {
-      records = holds.types.sections.denotes.good;
+      records = holds.types.sections.denotes.valid;
       free = held_free (types_of b) s holds.types;
       extension = record { functions = groups.functions; relocations = groups.relocations };
     })

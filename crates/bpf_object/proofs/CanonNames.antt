@@ -7,7 +7,7 @@ use Rattle.btf_types.proofs.Members.{Has}
 use Rattle.bpf_object.specs.Objects.{Object}
 use Rattle.bpf_object.specs.Canonical.{strings_of, place_of, types_names, file_strings}
 use Rattle.bpf_object.proofs.ReadBackStrings.{empty_string_in_table, name_in_table, name_below, table_closed}
-use Rattle.bpf_object.proofs.CanonGood.{section_of, symbol_of, nothing, no_symbol}
+use Rattle.bpf_object.proofs.CanonValid.{section_of, symbol_of, nothing, no_symbol}
 
 -- ---- members of lists
 

@@ -23,7 +23,7 @@ use Rattle.bpf_object.proofs.ReadBackKinds.{written_kind, next, row_name, kind_i
 use Rattle.bpf_object.proofs.ReadBackTables.{HasSymbol, HasRelocation}
 use Rattle.bpf_object.proofs.ReadBackSymbols.{count_of_symbols, symbol_is, symbol_strings_are}
 use Rattle.bpf_object.proofs.ReadBackRelocations.{kept_symbol_is, count_of_relocations, relocation_is}
-use Rattle.bpf_object.proofs.CanonGood.{section_of, symbol_of, relocation_of, nothing, no_symbol, no_relocation, kind_of_section, IsDataOf, IsGoodData, IsGoodTable, IsPlacedIn, GoodObject, IsSmall}
+use Rattle.bpf_object.proofs.CanonValid.{section_of, symbol_of, relocation_of, nothing, no_symbol, no_relocation, kind_of_section, IsDataOf, IsValidData, IsValidTable, IsPlacedIn, ValidObject, IsSmall}
 use Rattle.bpf_object.proofs.CanonNames.{name_table, name_place, file_name_reads, symbol_name_there}
 use Rattle.bpf_object.proofs.CanonRows.{section_rows, row_count, canonical_is, symtab_row, kept_row, own_kind, own_count, row_count_is, strtab_is, own_not_data, own_not_table}
 use Rattle.bpf_object.proofs.CanonFields.{is_writable, table_bits}
@@ -64,27 +64,27 @@ kept_passes o (kept_table is) = or_right (is_kind Data o) (is_kind Relocations o
 neither_passes : (y z : Bool) → y ≡ false → z ≡ false → (y || z) ≡ false
 neither_passes y z a b = rw (a, b) refl
 
-module _ (x : Object) (good : GoodObject x) (small : IsSmall x) where
+module _ (x : Object) (valid : ValidObject x) (small : IsSmall x) where
   -- ---- the header
 
   pub order_back : order_of (canonical x) ≡ x.order
   order_back = order_is (canonical x) x.order x.flags (section_rows x) (row_count x) (canonical_is x)
 
   pub flags_back : flags_of (canonical x) ≡ x.flags
-  flags_back = (has_file_header (canonical x) x.order x.flags (section_rows x) (row_count x) (canonical_is x) (is_writable x small good)).flags
+  flags_back = (has_file_header (canonical x) x.order x.flags (section_rows x) (row_count x) (canonical_is x) (is_writable x small valid)).flags
 
   pub count_back : number.count (canonical x) ≡ row_count x + 1
-  count_back = (has_file_header (canonical x) x.order x.flags (section_rows x) (row_count x) (canonical_is x) (is_writable x small good)).count
+  count_back = (has_file_header (canonical x) x.order x.flags (section_rows x) (row_count x) (canonical_is x) (is_writable x small valid)).count
 
   -- ---- the numbers of sections
 
   pub kind_back : (i : ℕ) → i < row_count x + 1 → kind (canonical x) i ≡ written_kind (section_rows x) (row_count x) i
-  kind_back i lt = kind_is (canonical x) x.order x.flags (section_rows x) (row_count x) (canonical_is x) (is_writable x small good) i lt
+  kind_back i lt = kind_is (canonical x) x.order x.flags (section_rows x) (row_count x) (canonical_is x) (is_writable x small valid) i lt
 
   kept_back : (i : ℕ) → i < length x.sections → is_kept_section (canonical x) (suc i) ≡ true
   kept_back i lt =
       ap (λ (o : Option Kind). is_kind Data o || is_kind Relocations o) (kind_back (suc i) (omega (arith, lt, row_count_is x)))
-      ∙ kept_passes (written_kind (section_rows x) (row_count x) (suc i)) (row_is_kept x good i lt)
+      ∙ kept_passes (written_kind (section_rows x) (row_count x) (suc i)) (row_is_kept x valid i lt)
 
   own_back : (k : ℕ) → k < own_count x → is_kept_section (canonical x) (suc (length x.sections) + k) ≡ false
   own_back k lt =
@@ -115,13 +115,13 @@ module _ (x : Object) (good : GoodObject x) (small : IsSmall x) where
 
   symbol_count_back : symbol_count (canonical x) ≡ length x.symbols
   symbol_count_back =
-      count_of_symbols (canonical x) x.order x.flags (section_rows x) (row_count x) (canonical_is x) (is_writable x small good) (symtab_row x) (symtab_row x + 1) (symbol_at x)
-      (length x.symbols) (are_symbols x good small)
+      count_of_symbols (canonical x) x.order x.flags (section_rows x) (row_count x) (canonical_is x) (is_writable x small valid) (symtab_row x) (symtab_row x + 1) (symbol_at x)
+      (length x.symbols) (are_symbols x valid small)
 
   symbol_kept_back : (j : ℕ) → j < length x.symbols → is_kept_symbol (canonical x) j ≡ true
   symbol_kept_back j lt =
-      kept_symbol_is (canonical x) x.order x.flags (section_rows x) (row_count x) (canonical_is x) (is_writable x small good) (symtab_row x) (symtab_row x + 1) (symbol_at x)
-      (length x.symbols) (are_symbols x good small) j lt ∙ row_kept x good small j lt
+      kept_symbol_is (canonical x) x.order x.flags (section_rows x) (row_count x) (canonical_is x) (is_writable x small valid) (symtab_row x) (symtab_row x + 1) (symbol_at x)
+      (length x.symbols) (are_symbols x valid small) j lt ∙ row_kept x valid small j lt
 
   -- the symbols keep theirs
   symbol_number_back : (j : ℕ) → j ≤ length x.symbols → symbol_number (canonical x) j ≡ j
@@ -131,18 +131,18 @@ module _ (x : Object) (good : GoodObject x) (small : IsSmall x) where
 
   symbol_fields : (j : ℕ) → j < length x.symbols → (let s = symbol_of x j in HasSymbol (canonical x) j (name_place x s.name) s.info s.other s.section s.value s.size)
   symbol_fields j lt =
-      symbol_is (canonical x) x.order x.flags (section_rows x) (row_count x) (canonical_is x) (is_writable x small good) (symtab_row x) (symtab_row x + 1) (symbol_at x)
-      (length x.symbols) (are_symbols x good small) j lt
+      symbol_is (canonical x) x.order x.flags (section_rows x) (row_count x) (canonical_is x) (is_writable x small valid) (symtab_row x) (symtab_row x + 1) (symbol_at x)
+      (length x.symbols) (are_symbols x valid small) j lt
 
   strings_back : symbol_strings (canonical x) ≡ name_table x
   strings_back =
-      symbol_strings_are (canonical x) x.order x.flags (section_rows x) (row_count x) (canonical_is x) (is_writable x small good) (symtab_row x) (symtab_row x + 1) (symbol_at x)
-      (length x.symbols) (are_symbols x good small) ∙ ap (λ (w : WrittenSection). w.content) (strtab_is x)
+      symbol_strings_are (canonical x) x.order x.flags (section_rows x) (row_count x) (canonical_is x) (is_writable x small valid) (symtab_row x) (symtab_row x + 1) (symbol_at x)
+      (length x.symbols) (are_symbols x valid small) ∙ ap (λ (w : WrittenSection). w.content) (strtab_is x)
 
   symbol_name_back : (j : ℕ) → j < length x.symbols → symbol_name (canonical x) j ≡ (symbol_of x j).name
   symbol_name_back j lt =
       ap (λ (t : List ℕ). string_at t (st_name (canonical x) j)) strings_back ∙ ap (λ (k : ℕ). string_at (name_table x) k) (symbol_fields j lt).name_is
-      ∙ file_name_reads x (symbol_of x j).name (symbol_name_there x j lt) (good.symbols j lt).name
+      ∙ file_name_reads x (symbol_of x j).name (symbol_name_there x j lt) (valid.symbols j lt).name
 
   section_back : (section : ℕ) → (is_special section ≡ true) ⊎ IsDataOf x section → symbol_section (canonical x) section ≡ section
   section_back section (inl special) = ap (λ (y : Bool). if y then section else section_number (canonical x) section) special
@@ -159,7 +159,7 @@ module _ (x : Object) (good : GoodObject x) (small : IsSmall x) where
   symbol_back j lt =
       let its = symbol_fields j lt in
       same_symbol (kept_symbol (canonical x) j) (symbol_of x j) (symbol_name_back j lt) its.info_is its.other_is
-      (ap (λ (i : ℕ). symbol_section (canonical x) i) its.shndx_is ∙ section_back (symbol_of x j).section (place_of_symbol (symbol_of x j) (good.symbols j lt).place))
+      (ap (λ (i : ℕ). symbol_section (canonical x) i) its.shndx_is ∙ section_back (symbol_of x j).section (place_of_symbol (symbol_of x j) (valid.symbols j lt).place))
       its.value_is its.size_is
 
   pub symbols_back : kept_symbols (canonical x) ≡ x.symbols
@@ -172,7 +172,7 @@ module _ (x : Object) (good : GoodObject x) (small : IsSmall x) where
 
   -- ---- tables of relocations
 
-  module _ (i : ℕ) (lt : i < length x.sections) (its : IsGoodTable x (section_of x i)) where
+  module _ (i : ℕ) (lt : i < length x.sections) (its : IsValidTable x (section_of x i)) where
     below : i < row_count x
     below = omega (arith, lt, row_count_is x)
 
@@ -182,16 +182,16 @@ module _ (x : Object) (good : GoodObject x) (small : IsSmall x) where
     relocation_count_back : relocation_count (canonical x) (i + 1) ≡ length (section_of x i).relocations
     unfolding are_relocations
     relocation_count_back =
-        count_of_relocations (canonical x) x.order x.flags (section_rows x) (row_count x) (canonical_is x) (is_writable x small good) (symtab_row x) (symtab_row x + 1) (symbol_at x)
-        (length x.symbols) (are_symbols x good small) i below (are_relocations x good small i lt its) bits
+        count_of_relocations (canonical x) x.order x.flags (section_rows x) (row_count x) (canonical_is x) (is_writable x small valid) (symtab_row x) (symtab_row x + 1) (symbol_at x)
+        (length x.symbols) (are_symbols x valid small) i below (are_relocations x valid small i lt its) bits
 
     relocation_back : (k : ℕ) → k < length (section_of x i).relocations → kept_relocation (canonical x) (i + 1) k ≡ relocation_of (section_of x i) k
     unfolding are_relocations
     relocation_back k there =
         let row = relocation_of (section_of x i) k in
         let fields : HasRelocation (canonical x) (i + 1) k row.offset row.symbol row.type =
-        relocation_is (canonical x) x.order x.flags (section_rows x) (row_count x) (canonical_is x) (is_writable x small good) (symtab_row x) (symtab_row x + 1) (symbol_at x)
-        (length x.symbols) (are_symbols x good small) i below (are_relocations x good small i lt its) bits k there in
+        relocation_is (canonical x) x.order x.flags (section_rows x) (row_count x) (canonical_is x) (is_writable x small valid) (symtab_row x) (symtab_row x + 1) (symbol_at x)
+        (length x.symbols) (are_symbols x valid small) i below (are_relocations x valid small i lt its) bits k there in
         let symbol = (its.rows k there).symbol in
         same_relocation (kept_relocation (canonical x) (i + 1) k) row fields.offset_is
         (ap (λ (j : ℕ). symbol_number (canonical x) j) fields.symbol_is ∙ symbol_number_back row.symbol (omega (arith, symbol))) fields.type_is
@@ -208,21 +208,21 @@ module _ (x : Object) (good : GoodObject x) (small : IsSmall x) where
 
   header_back : (i : ℕ) → i < length x.sections → HasHeader (canonical x) (i + 1) (section_rows x i) (content_place (section_rows x) i)
   header_back i lt =
-      has_header (canonical x) x.order x.flags (section_rows x) (row_count x) (canonical_is x) (is_writable x small good) i (omega (arith, lt, row_count_is x))
+      has_header (canonical x) x.order x.flags (section_rows x) (row_count x) (canonical_is x) (is_writable x small valid) i (omega (arith, lt, row_count_is x))
 
   name_back : (i : ℕ) → i < length x.sections → name (canonical x) (i + 1) ≡ (section_of x i).name
   name_back i lt =
       ap (λ (k : ℕ). name (canonical x) k) (sym (next i))
-      ∙ row_name (canonical x) x.order x.flags (section_rows x) (row_count x) (canonical_is x) (is_writable x small good) (suc i) (omega (arith, lt, row_count_is x))
-      ∙ kept_name_is x good i lt
+      ∙ row_name (canonical x) x.order x.flags (section_rows x) (row_count x) (canonical_is x) (is_writable x small valid) (suc i) (omega (arith, lt, row_count_is x))
+      ∙ kept_name_is x valid i lt
 
   section_kind_back : (i : ℕ) → i < length x.sections → kind (canonical x) (i + 1) ≡ kind_of_section (section_of x i)
   section_kind_back i lt =
-      ap (λ (k : ℕ). kind (canonical x) k) (sym (next i)) ∙ kind_back (suc i) (omega (arith, lt, row_count_is x)) ∙ kept_kind_is x good i lt
+      ap (λ (k : ℕ). kind (canonical x) k) (sym (next i)) ∙ kind_back (suc i) (omega (arith, lt, row_count_is x)) ∙ kept_kind_is x valid i lt
 
   content_back : (i : ℕ) → i < length x.sections → content (canonical x) (i + 1) ≡ (section_of x i).content ++ flat_map (row_bytes x.order) (section_of x i).relocations
   content_back i lt =
-      content_is (canonical x) x.order x.flags (section_rows x) (row_count x) (canonical_is x) (is_writable x small good) i (omega (arith, lt, row_count_is x))
+      content_is (canonical x) x.order x.flags (section_rows x) (row_count x) (canonical_is x) (is_writable x small valid) i (omega (arith, lt, row_count_is x))
       ∙ ap (λ (w : WrittenSection). w.content) (kept_row x i lt)
 
   -- what depends on whether it is a table
@@ -231,7 +231,7 @@ module _ (x : Object) (good : GoodObject x) (small : IsSmall x) where
     target_is : (if is_table (canonical x) i then section_number (canonical x) (number.info (canonical x) i) else 0) ≡ s.target
     rows_are : (if is_table (canonical x) i then table_rows (canonical x) i else []) ≡ s.relocations
 
-  rest_of_data : (i : ℕ) → i < length x.sections → IsGoodData (section_of x i) → IsRest (i + 1) (section_of x i)
+  rest_of_data : (i : ℕ) → i < length x.sections → IsValidData (section_of x i) → IsRest (i + 1) (section_of x i)
   rest_of_data i lt its =
       let other : is_table (canonical x) (i + 1) ≡ false = ap (λ (o : Option Kind). is_kind Relocations o) (section_kind_back i lt) ∙ not_table (kind_of_section (section_of x i)) its.kind in
       record {
@@ -241,7 +241,7 @@ module _ (x : Object) (good : GoodObject x) (small : IsSmall x) where
         rows_are = ap (λ (y : Bool). if y then table_rows (canonical x) (i + 1) else []) other ∙ sym its.relocations;
       }
 
-  rest_of_table : (i : ℕ) → i < length x.sections → IsGoodTable x (section_of x i) → IsRest (i + 1) (section_of x i)
+  rest_of_table : (i : ℕ) → i < length x.sections → IsValidTable x (section_of x i) → IsRest (i + 1) (section_of x i)
   rest_of_table i lt its =
       let here : is_table (canonical x) (i + 1) ≡ true = ap (λ (o : Option Kind). is_kind Relocations o) (section_kind_back i lt) ∙ its.kind in
       record {
@@ -251,7 +251,7 @@ module _ (x : Object) (good : GoodObject x) (small : IsSmall x) where
         rows_are = ap (λ (y : Bool). if y then table_rows (canonical x) (i + 1) else []) here ∙ rows_back i lt its;
       }
 
-  rest_back : (i : ℕ) → i < length x.sections → IsGoodData (section_of x i) ⊎ IsGoodTable x (section_of x i) → IsRest (i + 1) (section_of x i)
+  rest_back : (i : ℕ) → i < length x.sections → IsValidData (section_of x i) ⊎ IsValidTable x (section_of x i) → IsRest (i + 1) (section_of x i)
   rest_back i lt (inl its) = rest_of_data i lt its
   rest_back i lt (inr its) = rest_of_table i lt its
 
@@ -259,7 +259,7 @@ module _ (x : Object) (good : GoodObject x) (small : IsSmall x) where
   section_is_back i lt =
       let h = header_back i lt in
       let row = kept_row x i lt in
-      let rest = rest_back i lt (good.sections i lt).kept in
+      let rest = rest_back i lt (valid.sections i lt).kept in
       ap (λ (k : ℕ). kept_section (canonical x) k) (next i)
       ∙ same_section (kept_section (canonical x) (i + 1)) (section_of x i) (name_back i lt) (h.type ∙ ap (λ (w : WrittenSection). w.type) row)
       (h.flags ∙ ap (λ (w : WrittenSection). w.flags) row) (h.address ∙ ap (λ (w : WrittenSection). w.address) row) (h.size ∙ ap (λ (w : WrittenSection). w.size) row)

@@ -13,7 +13,7 @@ use Rattle.bpf_object.specs.WrittenSections.{no_section}
 use Rattle.bpf_object.specs.Objects.{ObjectTypes, Object}
 use Rattle.bpf_object.specs.Canonical.{place_of, has_extension, types_names, file_strings, symbol_bytes, first_global, btf_bytes, extension_bytes, types_strings, written_section, own_section, types_sections, symtab_number, last_sections, written_sections, canonical}
 use Rattle.btf_types.proofs.Members.{Has}
-use Rattle.bpf_object.proofs.CanonGood.{section_of, nothing}
+use Rattle.bpf_object.proofs.CanonValid.{section_of, nothing}
 use Rattle.bpf_object.proofs.CanonNames.{name_table, name_place, IsNameOf, types_name_there, symtab_name_there, strtab_name_there}
 
 -- ---- all sections, by their numbers from 0
@@ -118,60 +118,42 @@ without_nul_test (zero ∷ cs) all i lt e = absurd cc
 without_nul_test (suc c ∷ cs) all zero lt e = omega (arith, e)
 without_nul_test (suc c ∷ cs) all (suc i) lt e = without_nul_test cs (and_parts (not (suc c == 0)) (list_all (λ d. not (d == 0)) cs) all).1 i (omega (arith, lt)) e
 
--- .BTF and .BTF.ext
-types_row : (x : Object) (name content : List ℕ) (kind : Kind) → IsNameOf x name → list_all (λ c. not (c == 0)) name ≡ true → length name ≤ 1024
-    → kind_of 1 name 0 ≡ Some kind → IsOwnRow x (own_section (name_place x name) 1 content 0 0 4 0) name kind
-types_row x name content kind there none short is = record {
+own_row_from : (x : Object) (name content : List ℕ) (kind : Kind) (type link info alignment entry_size : ℕ) → IsNameOf x name → list_all (λ c. not (c == 0)) name ≡ true
+    → length name ≤ 1024 → kind_of type name 0 ≡ Some kind → type ≤ 3 → link ≤ symtab_number x + 1 → info ≤ first_global x.symbols → alignment ≤ 8 → entry_size ≤ 24
+    → IsOwnRow x (own_section (name_place x name) type content link info alignment entry_size) name kind
+own_row_from x name content kind type link info alignment entry_size there none short is low linked within aligned sized = record {
   there = there;
   without_nul = without_nul_test name none;
   name_short = short;
   name_offset = refl;
   kind_is = is;
-  type = omega arith;
+  type = low;
   flags = refl;
   address = refl;
   size = refl;
-  link = omega arith;
-  info = omega arith;
-  alignment = omega arith;
-  entry_size = omega arith;
+  link = linked;
+  info = within;
+  alignment = aligned;
+  entry_size = sized;
 }
+
+-- .BTF and .BTF.ext
+types_row : (x : Object) (name content : List ℕ) (kind : Kind) → IsNameOf x name → list_all (λ c. not (c == 0)) name ≡ true → length name ≤ 1024
+    → kind_of 1 name 0 ≡ Some kind → IsOwnRow x (own_section (name_place x name) 1 content 0 0 4 0) name kind
+types_row x name content kind there none short is =
+    own_row_from x name content kind 1 0 0 4 0 there none short is (omega arith) (omega arith) (omega arith) (omega arith) (omega arith)
 
 symtab_own : (x : Object) (content : List ℕ) → IsOwnRow x (own_section (name_place x (codes ".symtab")) SHT_SYMTAB content (symtab_number x + 1) (first_global x.symbols) 8 24) (codes ".symtab") Symbols
 unfolding kind_of
-symtab_own x content = record {
-  there = symtab_name_there x;
-  without_nul = without_nul_test (codes ".symtab") refl;
-  name_short = omega arith;
-  name_offset = refl;
-  kind_is = refl;
-  type = omega arith;
-  flags = refl;
-  address = refl;
-  size = refl;
-  link = omega arith;
-  info = omega arith;
-  alignment = omega arith;
-  entry_size = omega arith;
-}
+symtab_own x content =
+    own_row_from x (codes ".symtab") content Symbols SHT_SYMTAB (symtab_number x + 1) (first_global x.symbols) 8 24 (symtab_name_there x) refl (omega arith) refl
+    (omega arith) (omega arith) (omega arith) (omega arith) (omega arith)
 
 strtab_own : (x : Object) (content : List ℕ) → IsOwnRow x (own_section (name_place x (codes ".strtab")) SHT_STRTAB content 0 0 1 0) (codes ".strtab") Dropped
 unfolding kind_of
-strtab_own x content = record {
-  there = strtab_name_there x;
-  without_nul = without_nul_test (codes ".strtab") refl;
-  name_short = omega arith;
-  name_offset = refl;
-  kind_is = refl;
-  type = omega arith;
-  flags = refl;
-  address = refl;
-  size = refl;
-  link = omega arith;
-  info = omega arith;
-  alignment = omega arith;
-  entry_size = omega arith;
-}
+strtab_own x content =
+    own_row_from x (codes ".strtab") content Dropped SHT_STRTAB 0 0 1 0 (strtab_name_there x) refl (omega arith) refl (omega arith) (omega arith) (omega arith)
+    (omega arith) (omega arith)
 
 btf_kind : kind_of 1 (codes ".BTF") 0 ≡ Some Types
 unfolding kind_of

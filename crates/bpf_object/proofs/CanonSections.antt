@@ -16,7 +16,7 @@ use Rattle.bpf_object.specs.Canonical.{symtab_number, written_section}
 use Rattle.bpf_object.proofs.ReadBackTests.{less_test, most_test}
 use Rattle.bpf_object.proofs.ReadBackKinds.{written_name, written_kind, written_section as written_section_of, is_found, is_written_again}
 use Rattle.bpf_object.proofs.ReadBackSectionRules.{AreSections, target_test, is_written_target}
-use Rattle.bpf_object.proofs.CanonGood.{section_of, kind_of_section, IsDataOf, IsGoodData, IsGoodTable, IsGoodSection, GoodObject}
+use Rattle.bpf_object.proofs.CanonValid.{section_of, kind_of_section, IsDataOf, IsValidData, IsValidTable, IsValidSection, ValidObject}
 use Rattle.bpf_object.proofs.CanonNames.{name_table, name_place, name_table_closed, IsNameOf, file_name_reads, file_name_inside, section_name_there}
 use Rattle.bpf_object.proofs.CanonRows.{section_rows, row_count, symtab_row, kept_row, own_name, own_kind, own_count, IsOwnRow, row_count_is, own_row_is, strtab_is, own_apart, own_not_data, own_not_table}
 use Rattle.bpf_object.proofs.CanonFields.{split_row}
@@ -99,8 +99,8 @@ data_type type name flags is = elim (cases_Bool (type == SHT_REL)) [
     both : (y : Bool) → y ≡ false → y ≡ true → ⊥
     both y f t = cc
 
-pub kept_kind : (x : Object) (s : KeptSection) → IsGoodSection x s → IsKept (kind_of_section s)
-kept_kind x s good = elim good.kept [ inl its ↦ is_data its.kind | inr its ↦ is_table its.kind ]
+pub kept_kind : (x : Object) (s : KeptSection) → IsValidSection x s → IsKept (kind_of_section s)
+kept_kind x s valid = elim valid.kept [ inl its ↦ is_data its.kind | inr its ↦ is_table its.kind ]
 
 -- ---- names
 
@@ -167,12 +167,12 @@ module _ (x : Object) (k : ℕ) (lt : k < own_count x) where
 
 -- ---- the sections that are kept
 
-module _ (x : Object) (good : GoodObject x) (i : ℕ) (lt : i < length x.sections) where
+module _ (x : Object) (valid : ValidObject x) (i : ℕ) (lt : i < length x.sections) where
   kept : section_rows x i ≡ written_section x.order (name_place x) (symtab_number x) (section_of x i)
   kept = kept_row x i lt
 
   kept_short : IsShortName x (section_of x i).name
-  kept_short = record { there = section_name_there x i lt; without_nul = (good.sections i lt).name; short = (good.sections i lt).name_short }
+  kept_short = record { there = section_name_there x i lt; without_nul = (valid.sections i lt).name; short = (valid.sections i lt).name_short }
 
   pub kept_name_is : written_name (section_rows x) (row_count x) (suc i) ≡ (section_of x i).name
   kept_name_is = row_name x i (section_of x i).name kept_short (ap (λ (w : WrittenSection). w.name_offset) kept)
@@ -185,16 +185,16 @@ module _ (x : Object) (good : GoodObject x) (i : ℕ) (lt : i < length x.section
   kept_named = row_named x i (section_of x i).name kept_short (ap (λ (w : WrittenSection). w.name_offset) kept)
 
   pub row_is_kept : IsKept (written_kind (section_rows x) (row_count x) (suc i))
-  row_is_kept = subst IsKept (sym kept_kind_is) (kept_kind x (section_of x i) (good.sections i lt))
+  row_is_kept = subst IsKept (sym kept_kind_is) (kept_kind x (section_of x i) (valid.sections i lt))
 
 -- ---- at most one section of a kind
 
 -- no row before one that is written anew has its kind
-pub kind_before : (x : Object) → GoodObject x → (k : ℕ) → k < own_count x → (j : ℕ) → j < suc (length x.sections + k)
+pub kind_before : (x : Object) → ValidObject x → (k : ℕ) → k < own_count x → (j : ℕ) → j < suc (length x.sections + k)
     → is_kind (own_kind x k) (written_kind (section_rows x) (row_count x) j) ≡ false
-kind_before x good k lt zero below = none_is (own_kind x k)
-kind_before x good k lt (suc j) below = elim (cases_lt j (length x.sections)) [
-  | inl first ↦ kept_other (own_kind x k) (written_kind (section_rows x) (row_count x) (suc j)) (row_is_kept x good j first) (own_not_data x k) (own_not_table x k)
+kind_before x valid k lt zero below = none_is (own_kind x k)
+kind_before x valid k lt (suc j) below = elim (cases_lt j (length x.sections)) [
+  | inl first ↦ kept_other (own_kind x k) (written_kind (section_rows x) (row_count x) (suc j)) (row_is_kept x valid j first) (own_not_data x k) (own_not_table x k)
   | inr from ↦
       let q = j - length x.sections in
       let at : length x.sections + q ≡ j = omega (arith, from) in
@@ -212,24 +212,24 @@ same_kind Extension = refl
 same_kind Dropped = refl
 
 -- one that is written anew is the first section of its kind
-pub own_found : (x : Object) → GoodObject x → (k : ℕ) → k < own_count x → (w : Kind) → own_kind x k ≡ w
+pub own_found : (x : Object) → ValidObject x → (k : ℕ) → k < own_count x → (w : Kind) → own_kind x k ≡ w
     → written_section_of (section_rows x) (row_count x) w (row_count x + 1) ≡ suc (length x.sections + k)
-own_found x good k lt w is =
+own_found x valid k lt w is =
     let here : is_kind (own_kind x k) (written_kind (section_rows x) (row_count x) (suc (length x.sections + k))) ≡ true =
     ap (λ (o : Option Kind). is_kind (own_kind x k) o) (own_kind_is x k lt) ∙ same_kind (own_kind x k) in
     ap (λ (v : Kind). written_section_of (section_rows x) (row_count x) v (row_count x + 1)) (sym is)
     ∙ first_of_found (row_count x + 1) (suc (length x.sections + k)) (λ j. is_kind (own_kind x k) (written_kind (section_rows x) (row_count x) j))
-    (omega (arith, lt, row_count_is x)) (kind_before x good k lt) here (omega arith)
+    (omega (arith, lt, row_count_is x)) (kind_before x valid k lt) here (omega arith)
 
 -- no section has a kind that is neither kept nor that of one that is written anew
-pub none_found : (x : Object) → GoodObject x → (w : Kind) → is_kind Data (Some w) ≡ false → is_kind Relocations (Some w) ≡ false
+pub none_found : (x : Object) → ValidObject x → (w : Kind) → is_kind Data (Some w) ≡ false → is_kind Relocations (Some w) ≡ false
     → ((k : ℕ) → is_kind w (Some (own_kind x k)) ≡ false) → written_section_of (section_rows x) (row_count x) w (row_count x + 1) ≡ 0
-none_found x good w code table own = first_of_none (row_count x + 1) (λ j. is_kind w (written_kind (section_rows x) (row_count x) j)) other
+none_found x valid w code table own = first_of_none (row_count x + 1) (λ j. is_kind w (written_kind (section_rows x) (row_count x) j)) other
   where
     other : (j : ℕ) → j < row_count x + 1 → is_kind w (written_kind (section_rows x) (row_count x) j) ≡ false
     other zero lt = none_is w
     other (suc j) lt = elim (split_row x j (omega (arith, lt))) [
-      | inl first ↦ kept_other w (written_kind (section_rows x) (row_count x) (suc j)) (row_is_kept x good j first) code table
+      | inl first ↦ kept_other w (written_kind (section_rows x) (row_count x) (suc j)) (row_is_kept x valid j first) code table
       | inr its ↦
           subst (λ (m : ℕ). is_kind w (written_kind (section_rows x) (row_count x) (suc m)) ≡ false) its.2
           (ap (λ (o : Option Kind). is_kind w o) (own_kind_is x its.0 its.1) ∙ own its.0)
@@ -246,19 +246,19 @@ once_if None f k is none = refl
 many_once : (y z : Bool) → y ≡ false → not (y && z) ≡ true
 many_once y z e = rw e refl
 
-module _ (x : Object) (good : GoodObject x) where
+module _ (x : Object) (valid : ValidObject x) where
   own_once : (k : ℕ) → k < own_count x
       → not (is_single (written_kind (section_rows x) (row_count x) (suc (length x.sections + k))) && is_written_again (section_rows x) (row_count x) (suc (length x.sections + k))) ≡ true
   own_once k lt =
       let i = suc (length x.sections + k) in
       once_if (written_kind (section_rows x) (row_count x) i) (λ w. written_section_of (section_rows x) (row_count x) w i) (own_kind x k) (own_kind_is x k lt)
-      (first_of_none i (λ j. is_kind (own_kind x k) (written_kind (section_rows x) (row_count x) j)) (kind_before x good k lt))
+      (first_of_none i (λ j. is_kind (own_kind x k) (written_kind (section_rows x) (row_count x) j)) (kind_before x valid k lt))
 
   kept_once : (i : ℕ) → i < length x.sections
       → not (is_single (written_kind (section_rows x) (row_count x) (suc i)) && is_written_again (section_rows x) (row_count x) (suc i)) ≡ true
   kept_once i lt =
       many_once (is_single (written_kind (section_rows x) (row_count x) (suc i))) (is_written_again (section_rows x) (row_count x) (suc i))
-      (kept_many (written_kind (section_rows x) (row_count x) (suc i)) (row_is_kept x good i lt))
+      (kept_many (written_kind (section_rows x) (row_count x) (suc i)) (row_is_kept x valid i lt))
 
   -- ---- the sections of tables of relocations
 
@@ -268,14 +268,14 @@ module _ (x : Object) (good : GoodObject x) where
       let some = its.some in
       let there = its.there in
       let at : suc (number - 1) ≡ number = omega (arith, some) in
-      subst (λ (m : ℕ). written_kind (section_rows x) (row_count x) m ≡ kind_of_section (section_of x (number - 1))) at (kept_kind_is x good (number - 1) (omega (arith, some, there)))
+      subst (λ (m : ℕ). written_kind (section_rows x) (row_count x) m ≡ kind_of_section (section_of x (number - 1))) at (kept_kind_is x valid (number - 1) (omega (arith, some, there)))
 
   data_name : (number : ℕ) → IsDataOf x number → written_name (section_rows x) (row_count x) number ≡ (section_of x (number - 1)).name
   data_name number its =
       let some = its.some in
       let there = its.there in
       let at : suc (number - 1) ≡ number = omega (arith, some) in
-      subst (λ (m : ℕ). written_name (section_rows x) (row_count x) m ≡ (section_of x (number - 1)).name) at (kept_name_is x good (number - 1) (omega (arith, some, there)))
+      subst (λ (m : ℕ). written_name (section_rows x) (row_count x) m ≡ (section_of x (number - 1)).name) at (kept_name_is x valid (number - 1) (omega (arith, some, there)))
 
   pub data_row_there : (number : ℕ) → IsDataOf x number → is_kind Data (written_kind (section_rows x) (row_count x) number) ≡ true
   data_row_there number its = ap (λ (o : Option Kind). is_kind Data o) (data_row number its) ∙ its.is_data
@@ -286,12 +286,12 @@ module _ (x : Object) (good : GoodObject x) where
       (and_from (nat_lt 0 target) (nat_lt target count) (less_test 0 target some) (less_test target count there))
       (and_from (is_table_name n m) (not (is_kind Relocations k) || is_kind Data l) named (or_right (not (is_kind Relocations k)) (is_kind Data l) code))
 
-  table_target : (i : ℕ) (lt : i < length x.sections) → IsGoodTable x (section_of x i) → is_written_target (section_rows x) (row_count x) (suc i) (section_of x i).target ≡ true
+  table_target : (i : ℕ) (lt : i < length x.sections) → IsValidTable x (section_of x i) → is_written_target (section_rows x) (row_count x) (suc i) (section_of x i).target ≡ true
   table_target i lt its =
       let target = (section_of x i).target in
       let there = its.target.there in
       let named : is_table_name (written_name (section_rows x) (row_count x) (suc i)) (written_name (section_rows x) (row_count x) target) ≡ true =
-      ap (λ (t : List ℕ). is_table_name t (written_name (section_rows x) (row_count x) target)) (kept_name_is x good i lt)
+      ap (λ (t : List ℕ). is_table_name t (written_name (section_rows x) (row_count x) target)) (kept_name_is x valid i lt)
       ∙ ap (λ (t : List ℕ). is_table_name (section_of x i).name t) (data_name target its.target) ∙ its.target_name in
       target_passes (row_count x + 1) target (written_name (section_rows x) (row_count x) (suc i)) (written_name (section_rows x) (row_count x) target)
       (written_kind (section_rows x) (row_count x) (suc i)) (written_kind (section_rows x) (row_count x) target) its.target.some (omega (arith, there, row_count_is x)) named (data_row_there target its.target)
@@ -299,7 +299,7 @@ module _ (x : Object) (good : GoodObject x) where
   other_target : (i : ℕ) (y : Bool) → ((section_rows x i).type == SHT_REL) ≡ false → (not ((section_rows x i).type == SHT_REL) || y) ≡ true
   other_target i y other = or_left (not ((section_rows x i).type == SHT_REL)) y (ap not other)
 
-  kept_target : (i : ℕ) (lt : i < length x.sections) → IsGoodData (section_of x i) ⊎ IsGoodTable x (section_of x i)
+  kept_target : (i : ℕ) (lt : i < length x.sections) → IsValidData (section_of x i) ⊎ IsValidTable x (section_of x i)
       → (not ((section_rows x i).type == SHT_REL) || is_written_target (section_rows x) (row_count x) (suc i) (section_rows x i).info) ≡ true
   kept_target i lt (inl its) =
       other_target i (is_written_target (section_rows x) (row_count x) (suc i) (section_rows x i).info)
@@ -315,11 +315,11 @@ module _ (x : Object) (good : GoodObject x) where
     names_type = last_type x;
     names_closed = ap is_closed (last_content x) ∙ name_table_closed x;
     named = λ i lt. elim (split_row x i lt) [
-      | inl first ↦ kept_named x good i first
+      | inl first ↦ kept_named x valid i first
       | inr its ↦ subst (λ (m : ℕ). is_section_name (section_rows x (row_count x - 1)).content (section_rows x m).name_offset ≡ true) its.2 (own_named x its.0 its.1)
     ];
     known = λ i lt. elim (split_row x i lt) [
-      | inl first ↦ kept_some (written_kind (section_rows x) (row_count x) (suc i)) (row_is_kept x good i first)
+      | inl first ↦ kept_some (written_kind (section_rows x) (row_count x) (suc i)) (row_is_kept x valid i first)
       | inr its ↦ subst (λ (m : ℕ). is_some (written_kind (section_rows x) (row_count x) (suc m)) ≡ true) its.2 (ap is_some (own_kind_is x its.0 its.1))
     ];
     once = λ i lt. elim (split_row x i lt) [
@@ -327,7 +327,7 @@ module _ (x : Object) (good : GoodObject x) where
       | inr its ↦ subst (λ (m : ℕ). not (is_single (written_kind (section_rows x) (row_count x) (suc m)) && is_written_again (section_rows x) (row_count x) (suc m)) ≡ true) its.2 (own_once its.0 its.1)
     ];
     targets = λ i lt. elim (split_row x i lt) [
-      | inl first ↦ kept_target i first (good.sections i first).kept
+      | inl first ↦ kept_target i first (valid.sections i first).kept
       | inr its ↦ subst (λ (m : ℕ). (not ((section_rows x m).type == SHT_REL) || is_written_target (section_rows x) (row_count x) (suc m) (section_rows x m).info) ≡ true) its.2
           (other_target (length x.sections + its.0) (is_written_target (section_rows x) (row_count x) (suc (length x.sections + its.0)) (section_rows x (length x.sections + its.0)).info) (own_type x its.0 its.1))
     ];

@@ -19,7 +19,7 @@ use Rattle.bpf_object.proofs.ReadBackRows.{rows, flat_map_rows}
 use Rattle.bpf_object.proofs.ReadBackKinds.{written_kind}
 use Rattle.bpf_object.proofs.ReadBackSymbols.{WrittenSymbol, SymbolFits, AreSymbols, row_of, written_size, is_written_data, has_written_section, is_written_within}
 use Rattle.bpf_object.proofs.ReadBackRelocations.{WrittenRelocation, AreRelocations, is_written_kept, elf_holds}
-use Rattle.bpf_object.proofs.CanonGood.{section_of, symbol_of, kind_of_section, relocation_of, no_symbol, no_relocation, IsDataOf, IsGoodData, IsGoodTable, IsPlacedIn, GoodObject, IsSmall}
+use Rattle.bpf_object.proofs.CanonValid.{section_of, symbol_of, kind_of_section, relocation_of, no_symbol, no_relocation, IsDataOf, IsValidData, IsValidTable, IsPlacedIn, ValidObject, IsSmall}
 use Rattle.bpf_object.proofs.CanonNames.{name_place, name_table_closed, empty_name_place, file_name_inside, symbol_name_there}
 use Rattle.bpf_object.proofs.CanonRows.{section_rows, row_count, canonical_is, symtab_row, kept_row, row_count_is, symtab_is, strtab_is, symtab_kind, own_not_table}
 use Rattle.bpf_object.proofs.CanonFields.{split_row, table_short, symbols_short, is_writable}
@@ -51,10 +51,10 @@ first_symbol x s is =
 abbrev pub relocation_row_of : KeptRelocation → WrittenRelocation
 relocation_row_of r = record { offset = r.offset; symbol = r.symbol; type = r.type }
 
-module _ (x : Object) (good : GoodObject x) (small : IsSmall x) where
+module _ (x : Object) (valid : ValidObject x) (small : IsSmall x) where
   symbol_fits : (j : ℕ) → j < length x.symbols → SymbolFits (symbol_at x j)
   symbol_fits j lt =
-      let its = good.symbols j lt in
+      let its = valid.symbols j lt in
       record {
         name_offset = omega (arith, file_name_inside x (symbol_of x j).name (symbol_name_there x j lt) its.name, table_short x small);
         section = its.section;
@@ -64,7 +64,7 @@ module _ (x : Object) (good : GoodObject x) (small : IsSmall x) where
 
   symbol_named : (j : ℕ) → j < length x.symbols → name_place x (symbol_of x j).name < length (section_rows x (symtab_row x + 1)).content
   symbol_named j lt =
-      omega (arith, file_name_inside x (symbol_of x j).name (symbol_name_there x j lt) (good.symbols j lt).name, ap (λ (w : WrittenSection). length w.content) (strtab_is x))
+      omega (arith, file_name_inside x (symbol_of x j).name (symbol_name_there x j lt) (valid.symbols j lt).name, ap (λ (w : WrittenSection). length w.content) (strtab_is x))
 
   -- sh_size of a section of code or data
   data_size : (number : ℕ) → IsDataOf x number → written_size (section_rows x) number ≡ (section_of x (number - 1)).size
@@ -82,7 +82,7 @@ module _ (x : Object) (good : GoodObject x) (small : IsSmall x) where
       let inside = is_written_data (section_rows x) (row_count x) s.section in
       or_right (is_special s.section) (nat_lt s.section (row_count x + 1) && (is_local s.info || inside))
       (and_from (nat_lt s.section (row_count x + 1)) (is_local s.info || inside) (less_test s.section (row_count x + 1) (omega (arith, there, row_count_is x)))
-      (or_right (is_local s.info) inside (data_row_there x good s.section its.section)))
+      (or_right (is_local s.info) inside (data_row_there x valid s.section its.section)))
 
   placed_within : (s : KeptSymbol) → (is_special s.section ≡ true) ⊎ IsPlacedIn x s → is_written_within (section_rows x) (row_count x) (symbol_row_of x s) ≡ true
   placed_within s (inl special) =
@@ -101,7 +101,7 @@ module _ (x : Object) (good : GoodObject x) (small : IsSmall x) where
       and_from (is_special s.section || inside) (not (is_file_name s.info s.section))
       (elim place [
         | inl special ↦ or_left (is_special s.section) inside special
-        | inr its ↦ or_right (is_special s.section) inside (data_row_there x good s.section its.section)
+        | inr its ↦ or_right (is_special s.section) inside (data_row_there x valid s.section its.section)
       ])
       (ap not not_file)
 
@@ -109,40 +109,40 @@ module _ (x : Object) (good : GoodObject x) (small : IsSmall x) where
   are_symbols =
       let count = row_count_is x in
       record {
-        section = own_found x good (length (types_names x.types)) (omega arith) Symbols (symtab_kind x);
+        section = own_found x valid (length (types_names x.types)) (omega arith) Symbols (symtab_kind x);
         table = ap (λ (w : WrittenSection). w.content) (symtab_is x) ∙ flat_map_rows (symbol_bytes x.order (name_place x)) x.symbols no_symbol;
         entry_size = ap (λ (w : WrittenSection). w.entry_size) (symtab_is x);
         link = ap (λ (w : WrittenSection). w.link) (symtab_is x) ∙ omega arith;
         names_below = omega (arith, count);
         names_type = ap (λ (w : WrittenSection). w.type) (strtab_is x);
         names_closed = ap (λ (w : WrittenSection). is_closed w.content) (strtab_is x) ∙ name_table_closed x;
-        some = good.some;
-        first = first_symbol x (symbol_of x 0) good.first;
+        some = valid.some;
+        first = first_symbol x (symbol_of x 0) valid.first;
         fits = symbol_fits;
         named = symbol_named;
-        sections = λ j lt. placed_section (symbol_of x j) (good.symbols j lt).place;
-        within = λ j lt. placed_within (symbol_of x j) (good.symbols j lt).place;
+        sections = λ j lt. placed_section (symbol_of x j) (valid.symbols j lt).place;
+        within = λ j lt. placed_within (symbol_of x j) (valid.symbols j lt).place;
       }
 
   -- ---- relocations
 
   pub row_kept : (j : ℕ) → j < length x.symbols → is_written_kept (section_rows x) (row_count x) (symbol_at x j) ≡ true
-  row_kept j lt = placed_kept (symbol_of x j) (good.symbols j lt).place (good.symbols j lt).not_file
+  row_kept j lt = placed_kept (symbol_of x j) (valid.symbols j lt).place (valid.symbols j lt).not_file
 
-  pub table_link : (i : ℕ) → i < length x.sections → IsGoodTable x (section_of x i) → (section_rows x i).link ≡ suc (symtab_row x)
+  pub table_link : (i : ℕ) → i < length x.sections → IsValidTable x (section_of x i) → (section_rows x i).link ≡ suc (symtab_row x)
   table_link i lt its =
       ap (λ (w : WrittenSection). w.link) (kept_row x i lt)
       ∙ ap (λ (t : ℕ). if t == SHT_REL then symtab_number x else 0) (relocations_type (section_of x i).type (section_of x i).name (section_of x i).flags its.kind)
       ∙ omega arith
 
-  pub table_rows_are : (i : ℕ) → i < length x.sections → IsGoodTable x (section_of x i)
+  pub table_rows_are : (i : ℕ) → i < length x.sections → IsValidTable x (section_of x i)
       → (section_rows x i).content ≡ rows (λ k. row_bytes x.order (relocation_of (section_of x i) k)) (length (section_of x i).relocations)
   table_rows_are i lt its =
       ap (λ (w : WrittenSection). w.content) (kept_row x i lt)
       ∙ ap (λ (c : List ℕ). c ++ flat_map (row_bytes x.order) (section_of x i).relocations) its.content
       ∙ flat_map_rows (row_bytes x.order) (section_of x i).relocations no_relocation
 
-  unfoldable pub are_relocations : (i : ℕ) → i < length x.sections → IsGoodTable x (section_of x i)
+  unfoldable pub are_relocations : (i : ℕ) → i < length x.sections → IsValidTable x (section_of x i)
       → AreRelocations x.order (section_rows x) (row_count x) (symtab_row x) (symbol_at x) (length x.symbols) i
   are_relocations i lt its = record {
     count = length (section_of x i).relocations;
@@ -155,16 +155,16 @@ module _ (x : Object) (good : GoodObject x) (small : IsSmall x) where
     kept = λ k below. row_kept (relocation_of (section_of x i) k).symbol (its.rows k below).symbol;
   }
 
-  kept_relocations : (i : ℕ) → i < length x.sections → is_kind Relocations (written_kind (section_rows x) (row_count x) (suc i)) ≡ true → IsGoodData (section_of x i) ⊎ IsGoodTable x (section_of x i)
+  kept_relocations : (i : ℕ) → i < length x.sections → is_kind Relocations (written_kind (section_rows x) (row_count x) (suc i)) ≡ true → IsValidData (section_of x i) ⊎ IsValidTable x (section_of x i)
       → AreRelocations x.order (section_rows x) (row_count x) (symtab_row x) (symbol_at x) (length x.symbols) i
   kept_relocations i lt is (inl its) =
-      absurd (not_both (kind_of_section (section_of x i)) its.kind (ap (λ (o : Option Kind). is_kind Relocations o) (sym (kept_kind_is x good i lt)) ∙ is))
+      absurd (not_both (kind_of_section (section_of x i)) its.kind (ap (λ (o : Option Kind). is_kind Relocations o) (sym (kept_kind_is x valid i lt)) ∙ is))
   kept_relocations i lt is (inr its) = are_relocations i lt its
 
   tables_are : (i : ℕ) → i < row_count x → is_kind Relocations (written_kind (section_rows x) (row_count x) (suc i)) ≡ true
       → AreRelocations x.order (section_rows x) (row_count x) (symtab_row x) (symbol_at x) (length x.symbols) i
   tables_are i lt is = elim (split_row x i lt) [
-    | inl first ↦ kept_relocations i first is (good.sections i first).kept
+    | inl first ↦ kept_relocations i first is (valid.sections i first).kept
     | inr own ↦
         let at : is_kind Relocations (written_kind (section_rows x) (row_count x) (suc (length x.sections + own.0))) ≡ true =
         subst (λ (m : ℕ). is_kind Relocations (written_kind (section_rows x) (row_count x) (suc m)) ≡ true) (sym own.2) is in
@@ -176,5 +176,5 @@ module _ (x : Object) (good : GoodObject x) (small : IsSmall x) where
   -- the canonical file keeps all rules
   pub canonical_is_elf : IsElf (canonical x)
   canonical_is_elf =
-      elf_holds (canonical x) x.order x.flags (section_rows x) (row_count x) (canonical_is x) (is_writable x small good) (symtab_row x) (symtab_row x + 1) (symbol_at x)
-      (length x.symbols) are_symbols (are_sections x good) tables_are
+      elf_holds (canonical x) x.order x.flags (section_rows x) (row_count x) (canonical_is x) (is_writable x small valid) (symtab_row x) (symtab_row x + 1) (symbol_at x)
+      (length x.symbols) are_symbols (are_sections x valid) tables_are

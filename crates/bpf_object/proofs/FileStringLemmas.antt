@@ -1,24 +1,25 @@
 -- The strings of a file that are noted for .strtab.
-use Rattle.std.proofs.Common.{◌≡◌, ℕ, zero, suc, ◌+◌, ◌<◌, inl, inr, subst, Bool, true, cond, Option, List, [], ◌∷◌, ◌++◌, length, refl, ◌∙◌, ap, sym, add-one, append_assoc, arith}
+use Rattle.std.proofs.Common.{◌≡◌, ℕ, zero, suc, ◌+◌, ◌<◌, inl, inr, subst, Bool, true, false, cond, Option, List, [], ◌∷◌, ◌++◌, length, refl, ◌∙◌, ap, sym, add-one, zero-add, append_assoc, arith}
 use Rattle.std.proofs.Math.Seq.{drop-append-add}
 use Rattle.std.specs.Prelude.{is_some}
 use Rattle.std.specs.List.{All, Contains}
-use Rattle.std.proofs.lemmas.Bool.{cases_lt}
+use Rattle.std.proofs.lemmas.Bool.{cases_lt, eqb-true}
 use Rattle.std.proofs.lemmas.List.Elements.{All-head, All-tail}
-use Rattle.bpf_elf.specs.Numbers.{count, name_off}
+use Rattle.bpf_elf.specs.Numbers.{count, names, name_off, link}
 use Rattle.bpf_elf.specs.Names.{is_closed, string_at}
-use Rattle.bpf_elf.specs.Symbols.{symbol_count, symbol_strings, is_kept_symbol}
+use Rattle.bpf_elf.specs.Sections.{content}
+use Rattle.bpf_elf.specs.Symbols.{symbols, symbol_count, symbol_strings, has_one_string_table, is_kept_symbol}
 use Rattle.btf_types.specs.Reading.{before_nul, text_from}
 use Rattle.btf_types.proofs.TableLemmas.TextSteps.{text_there}
 use Rattle.bpf_canon.specs.btf.strings.{NamesByPlace.NamesByPlace, NamesByPlace.placed_texts, DistinctNames.distinct_place}
 use Rattle.bpf_object.specs.declared.file_strings.OwnSection.{OwnSection}
 use Rattle.bpf_object.specs.declared.file_strings.OwnSection.TheVariants.{Types, Extension, Symbols, Strings}
-use Rattle.bpf_object.specs.FileStrings.{HasFileStrings, HasOwnStrings, file_offsets, section_offsets, types_offsets, own_offsets, symbol_offsets, symbol_off, section_strings, all_strings, own_strings, symbols_at, own_at, own_off, own_name}
+use Rattle.bpf_object.specs.FileStrings.{HasFileStrings, HasOwnStrings, file_offsets, section_offsets, types_offsets, own_offsets, symbol_offsets, symbol_off, section_strings, other_strings, all_strings, own_strings, symbols_at, own_at, own_off, own_name}
 use Rattle.bpf_object.specs.NotedStrings.{placed}
 use Rattle.bpf_object.proofs.ReadBackStrings.{string_is_text, text_read, ends_from_closed}
 use Rattle.bpf_canon.specs.btf.strings.FirstUses.{noted, noted_all}
 use Rattle.bpf_canon.proofs.BtfLemmas.Strings.FirstUseSteps.{noted_all-append}
-use Rattle.bpf_canon.proofs.BtfLemmas.CanonicalSpells.{All-front, All-back}
+use Rattle.bpf_canon.proofs.BtfLemmas.CanonicalEncodes.{All-front, All-back}
 use Rattle.bpf_canon.proofs.BtfLemmas.Write.SectionFiles.{each_noted}
 use Rattle.bpf_object.specs.Kept.{listed, is_kept_section}
 
@@ -27,9 +28,9 @@ pub noted_next : (offs : List ℕ) (test : ℕ → Bool) (f : ℕ → ℕ) (n : 
     → noted_all offs (listed test f (n + 1)) ≡ noted_all (noted_all offs (listed test f n)) (cond (test n) (f n ∷ []) [])
 noted_next offs test f n = rw add-one (noted_all-append offs (listed test f n) (cond (test n) (f n ∷ []) []))
 
-pub noted_more : (offs new old : List ℕ) (test : ℕ → Bool) (f : ℕ → ℕ) (n : ℕ) → old ≡ noted_all offs (listed test f n)
-    → new ≡ noted_all old (cond (test n) (f n ∷ []) []) → new ≡ noted_all offs (listed test f (n + 1))
-noted_more offs new old test f n before step = step ∙ ap (λ (l : List ℕ). noted_all l (cond (test n) (f n ∷ []) [])) before ∙ sym (noted_next offs test f n)
+pub noted_more : (offs new old : List ℕ) (test : ℕ → Bool) (f : ℕ → ℕ) (n off : ℕ) (is : Bool) → old ≡ noted_all offs (listed test f n) → off ≡ f n → is ≡ test n
+    → new ≡ noted_all old (cond is (off ∷ []) []) → new ≡ noted_all offs (listed test f (n + 1))
+noted_more offs new old test f n off is before there tested step = rw (noted_next, ← before, ← there, ← tested) step
 
 -- some more that are noted
 pub noted_after : (offs new old xs step ys : List ℕ) → old ≡ noted_all offs xs → new ≡ noted_all old step → ys ≡ xs ++ step → new ≡ noted_all offs ys
@@ -70,13 +71,24 @@ text_after xs ys off = ap before_nul (drop-append-add xs ys off)
 pub section_text : (b : List ℕ) (off : ℕ) → is_closed (section_strings b) ≡ true → off < length (section_strings b)
     → text_from (all_strings b) off ≡ string_at (section_strings b) off
 section_text b off closed lt =
-    text_before (section_strings b) (symbol_strings b ++ own_strings) off closed lt ∙ sym (string_is_text (section_strings b) off)
+    text_before (section_strings b) (other_strings b ++ own_strings) off closed lt ∙ sym (string_is_text (section_strings b) off)
+
+-- one table, or a second one after it
+text_in : (xs ys zs : List ℕ) (off : ℕ) (one : Bool) → (one ≡ true → xs ≡ ys) → is_closed ys ≡ true → off < length ys
+    → text_from (xs ++ (cond one [] ys ++ zs)) (cond one 0 (length xs) + off) ≡ string_at ys off
+text_in xs ys zs off true same closed lt =
+    ap (λ (s : List ℕ). text_from (s ++ ([] ++ zs)) (0 + off)) (same refl) ∙ ap (text_from (ys ++ ([] ++ zs))) (zero-add off)
+    ∙ text_before ys ([] ++ zs) off closed lt ∙ sym (string_is_text ys off)
+text_in xs ys zs off false same closed lt =
+    text_after xs (ys ++ zs) off ∙ text_before ys zs off closed lt ∙ sym (string_is_text ys off)
+
+same_strings : (b : List ℕ) → has_one_string_table b ≡ true → section_strings b ≡ symbol_strings b
+same_strings b one = ap (content b) (eqb-true (names b) (link b (symbols b)) one)
 
 pub symbol_text : (b : List ℕ) (off : ℕ) → is_closed (symbol_strings b) ≡ true → off < length (symbol_strings b)
     → text_from (all_strings b) (symbols_at b + off) ≡ string_at (symbol_strings b) off
 symbol_text b off closed lt =
-    text_after (section_strings b) (symbol_strings b ++ own_strings) off ∙ text_before (symbol_strings b) own_strings off closed lt
-    ∙ sym (string_is_text (symbol_strings b) off)
+    text_in (section_strings b) (symbol_strings b) own_strings off (has_one_string_table b) (same_strings b) closed lt
 
 own_read : (own : OwnSection) → text_from own_strings (own_off own) ≡ own_name own
 own_read Types = refl
@@ -86,9 +98,9 @@ own_read Strings = refl
 
 pub own_text : (b : List ℕ) (own : OwnSection) → text_from (all_strings b) (own_at b + own_off own) ≡ own_name own
 own_text b own =
-    let at : own_at b + own_off own ≡ symbols_at b + (length (symbol_strings b) + own_off own) = omega arith in
-    ap (text_from (all_strings b)) at ∙ text_after (section_strings b) (symbol_strings b ++ own_strings) (length (symbol_strings b) + own_off own)
-    ∙ text_after (symbol_strings b) own_strings (own_off own) ∙ own_read own
+    let at : own_at b + own_off own ≡ length (section_strings b) + (length (other_strings b) + own_off own) = omega arith in
+    ap (text_from (all_strings b)) at ∙ text_after (section_strings b) (other_strings b ++ own_strings) (length (other_strings b) + own_off own)
+    ∙ text_after (other_strings b) own_strings (own_off own) ∙ own_read own
 
 -- the place of a string that is noted by its offset
 pub place_is : (names : NamesByPlace) (strings x : List ℕ) (off place : ℕ) → names.strings ≡ strings

@@ -11,7 +11,7 @@ use Rattle.btf_raw.specs.Header.{header}
 use Rattle.btf_types.specs.{Sections.SectionWords, Sections.records_in, tables.TableInvariant.IsTable}
 use Rattle.bpf_canon.specs.btf.strings.{NamesByPlace.NamesByPlace, NamesByPlace.placed_texts, DistinctNames.distinct_table}
 use Rattle.bpf_canon.specs.btf.write.NameOffsets.{all_offsets}
-use Rattle.bpf_canon.proofs.BtfLemmas.CanonicalSpells.{All-front, All-back}
+use Rattle.bpf_canon.proofs.BtfLemmas.CanonicalEncodes.{All-front, All-back}
 use Rattle.bpf_canon.proofs.BtfLemmas.Write.SectionFiles.{each_noted}
 use Rattle.bpf_object.specs.declared.{extension.Part.Part, source.Source.Source}
 use Rattle.bpf_object.specs.declared.extension.Part.TheVariants.{Functions, Relocations}

@@ -33,7 +33,7 @@ pub mod TypesLemmas
 pub mod FaultLemmas
 pub mod FileBridge
 pub mod TableLemmas
-pub mod CanonGood
+pub mod CanonValid
 pub mod CanonNames
 pub mod CanonRows
 pub mod CanonFields
@@ -55,7 +55,7 @@ pub mod CanonBtfRules
 pub mod CanonBtfKept
 pub mod CanonGroups
 pub mod CanonExtensionHead
-pub mod CanonExtensionGood
+pub mod CanonExtensionValid
 pub mod CanonExtensionRecords
 pub mod CanonExtensionKept
 pub mod CanonHeld

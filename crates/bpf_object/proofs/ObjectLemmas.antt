@@ -1,5 +1,5 @@
 -- A file denotes at most one object, and one that denotes an object has no fault.
-use Rattle.std.proofs.Common.{◌≡◌, ℕ, zero, suc, ◌<◌, ◌&&◌, Bool, true, false, lit<, Result, Ok, Err, Option, Some, None, List, [], ◌∷◌, ◌++◌, take, drop, inr, refl, sym, ◌∙◌, ap, subst, arith}
+use Rattle.std.proofs.Common.{◌≡◌, ℕ, zero, suc, ◌<◌, ◌&&◌, Bool, true, false, lit<, Result, Ok, Err, Option, Some, None, List, [], ◌∷◌, take, drop, inr, refl, sym, ◌∙◌, ap, subst, arith}
 use Rattle.std.proofs.lemmas.Bool.Decides.{nat_tests}
 use Rattle.std.specs.Prelude.{MatchResult, ◌==◌, if◌then◌else◌}
 use Rattle.bpf_words.specs.{Words.IsBytes}

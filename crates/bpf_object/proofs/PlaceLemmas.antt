@@ -88,7 +88,7 @@ module _ (s : SectionWords) (x : Section) (same : s.strings ≡ x.strings) (tabl
       let more = groups_offsets x Functions (groups x Functions) ++ groups_offsets x Relocations (groups x Relocations) in
       ap kept (map-append (text_from s.strings) (all_offsets s.frames) more)
       ∙ same_more (map (text_from s.strings) (all_offsets s.frames)) (names (records_in s)) (map (text_from s.strings) more)
-      (kept_at_offsets s.strings s.frames table.ends table.each table.spelled)
+      (kept_at_offsets s.strings s.frames table.ends table.each table.encoded)
       ∙ ap (λ (t : List (List ℕ)). kept (names (records_in s) ++ t)) (ap (λ (l : List ℕ). map (text_from l) more) same ∙ extension_texts)
 
   -- the same strings are kept

@@ -10,7 +10,7 @@ use Rattle.bpf_object.specs.WrittenSections.{no_section}
 use Rattle.bpf_object.specs.File.{WrittenSection, data_byte, ident, file_type, file_table, content_place, section_header, file_of}
 use Rattle.bpf_object.proofs.FileLemmas.{place_grows}
 use Rattle.bpf_object.proofs.ReadBackWords.{HasBytes, has_at, has_same, has_of, has_first, has_rest, read_byte}
-use Rattle.bpf_object.proofs.ReadBackNumbers.{Number, half, word, long, spell, FitWidths, Read, read_all}
+use Rattle.bpf_object.proofs.ReadBackNumbers.{Number, half, word, long, encode, FitWidths, Read, read_all}
 use Rattle.bpf_object.proofs.ReadBackLayout.{header, length-ident, header_there, section_header_there, zero_there}
 
 -- ---- what can be written
@@ -42,9 +42,9 @@ header_numbers : ℕ → ℕ → ℕ → List Number
 header_numbers flags table count =
     half 1 ∷ half 247 ∷ word 1 ∷ long 0 ∷ long 0 ∷ long table ∷ word flags ∷ half 64 ∷ half 0 ∷ half 0 ∷ half 64 ∷ half count ∷ half (count - 1) ∷ []
 
-header_spelled : (o : Order) (flags table count : ℕ) → file_type o ++ file_table o flags table count ≡ spell o (header_numbers flags table count)
+header_encoded : (o : Order) (flags table count : ℕ) → file_type o ++ file_table o flags table count ≡ encode o (header_numbers flags table count)
 unfolding header_numbers
-header_spelled o flags table count = simp (append_assoc, append-nil)
+header_encoded o flags table count = simp (append_assoc, append-nil)
 
 module _ (b : List ℕ) (o : Order) (flags : ℕ) (s : ℕ → WrittenSection) (n : ℕ) (is : b ≡ file_of o flags s n) where
   header_here : HasBytes b 0 (header o flags (content_place s n) (n + 1))
@@ -75,12 +75,12 @@ module _ (b : List ℕ) (o : Order) (flags : ℕ) (s : ℕ → WrittenSection) (
   place_fits : (i : ℕ) → i ≤ n → content_place s i < 2 ^ 64
   place_fits i le = let short = w.short in omega (arith, place_grows s i n le)
 
-  numbers_here : HasBytes b 16 (spell o (header_numbers flags (content_place s n) (n + 1)))
+  numbers_here : HasBytes b 16 (encode o (header_numbers flags (content_place s n) (n + 1)))
   numbers_here =
-      has_same b 16 (file_type o ++ file_table o flags (content_place s n) (n + 1)) (spell o (header_numbers flags (content_place s n) (n + 1)))
+      has_same b 16 (file_type o ++ file_table o flags (content_place s n) (n + 1)) (encode o (header_numbers flags (content_place s n) (n + 1)))
       (has_at b (0 + 16) 16 (file_type o ++ file_table o flags (content_place s n) (n + 1))
       (has_rest b 0 16 (ident o) (file_type o ++ file_table o flags (content_place s n) (n + 1)) (header_here b o flags s n is) (length-ident o)) (omega arith))
-      (header_spelled o flags (content_place s n) (n + 1))
+      (header_encoded o flags (content_place s n) (n + 1))
 
   numbers_fit : FitWidths (header_numbers flags (content_place s n) (n + 1))
   unfolding header_numbers
@@ -152,9 +152,9 @@ section_numbers : WrittenSection → ℕ → List Number
 section_numbers s place =
     word s.name_offset ∷ word s.type ∷ long s.flags ∷ long s.address ∷ long place ∷ long s.size ∷ word s.link ∷ word s.info ∷ long s.alignment ∷ long s.entry_size ∷ []
 
-section_spelled : (o : Order) (s : WrittenSection) (place : ℕ) → section_header o s place ≡ spell o (section_numbers s place)
+section_encoded : (o : Order) (s : WrittenSection) (place : ℕ) → section_header o s place ≡ encode o (section_numbers s place)
 unfolding section_numbers
-section_spelled o s place = simp (append_assoc, append-nil)
+section_encoded o s place = simp (append_assoc, append-nil)
 
 section_numbers_fit : (s : WrittenSection) (place : ℕ) → FieldsFit s → place < 2 ^ 64 → FitWidths (section_numbers s place)
 unfolding section_numbers
@@ -183,8 +183,8 @@ row_reads : (b : List ℕ) (o : Order) (i : ℕ) (s : WrittenSection) (place : �
 row_reads b o i s place order fit h =
     section_header_reads b o i s place order
     (read_all o b (number.place b i) 0 (section_numbers s place) fit
-    (has_at b (number.place b i) (number.place b i + 0) (spell o (section_numbers s place))
-    (has_same b (number.place b i) (section_header o s place) (spell o (section_numbers s place)) h (section_spelled o s place)) (omega arith)))
+    (has_at b (number.place b i) (number.place b i + 0) (encode o (section_numbers s place))
+    (has_same b (number.place b i) (section_header o s place) (encode o (section_numbers s place)) h (section_encoded o s place)) (omega arith)))
 
 module _ (b : List ℕ) (o : Order) (flags : ℕ) (s : ℕ → WrittenSection) (n : ℕ) (is : b ≡ file_of o flags s n) (w : IsWritable flags s n) where
   -- that of a section

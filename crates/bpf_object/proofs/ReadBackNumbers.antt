@@ -42,9 +42,9 @@ ReadsAt o b i (word v) = word32_at o b i ≡ v
 ReadsAt o b i (long v) = word64_at o b i ≡ v
 
 -- the bytes of numbers
-abbrev pub spell : Order → List Number → List ℕ
-spell o [] = []
-spell o (x ∷ xs) = bytes o x ++ spell o xs
+abbrev pub encode : Order → List Number → List ℕ
+encode o [] = []
+encode o (x ∷ xs) = bytes o x ++ encode o xs
 
 abbrev pub FitWidths : List Number → Type 0
 FitWidths [] = Unit {0}
@@ -67,10 +67,10 @@ read_one o b i (half v) fit h = read_16 o b i v h fit
 read_one o b i (word v) fit h = read_32 o b i v h fit
 read_one o b i (long v) fit h = read_64 o b i v h fit
 
-pub read_all : (o : Order) (b : List ℕ) (place offset : ℕ) (xs : List Number) → FitWidths xs → HasBytes b (place + offset) (spell o xs) → Read o b place offset xs
+pub read_all : (o : Order) (b : List ℕ) (place offset : ℕ) (xs : List Number) → FitWidths xs → HasBytes b (place + offset) (encode o xs) → Read o b place offset xs
 read_all o b place offset [] fit h = tt
 read_all o b place offset (x ∷ xs) fit h =
-    let rest : HasBytes b (place + (offset + width x)) (spell o xs) =
-    has_at b (place + offset + width x) (place + (offset + width x)) (spell o xs)
-    (has_rest b (place + offset) (width x) (bytes o x) (spell o xs) h (length-bytes o x)) (add_assoc place offset (width x)) in
-    (read_one o b (place + offset) x fit.0 (has_first b (place + offset) (bytes o x) (spell o xs) h), read_all o b place (offset + width x) xs fit.1 rest)
+    let rest : HasBytes b (place + (offset + width x)) (encode o xs) =
+    has_at b (place + offset + width x) (place + (offset + width x)) (encode o xs)
+    (has_rest b (place + offset) (width x) (bytes o x) (encode o xs) h (length-bytes o x)) (add_assoc place offset (width x)) in
+    (read_one o b (place + offset) x fit.0 (has_first b (place + offset) (bytes o x) (encode o xs) h), read_all o b place (offset + width x) xs fit.1 rest)

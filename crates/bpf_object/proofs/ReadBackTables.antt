@@ -10,7 +10,7 @@ use Rattle.bpf_elf.specs.Symbols.{symbols, symbol_count, symbol_place, st_name, 
 use Rattle.bpf_elf.specs.Relocations.{relocation_count, relocation_place, r_offset, r_symbol, r_type}
 use Rattle.bpf_object.specs.File.{WrittenSection, word64, content_place, file_of}
 use Rattle.bpf_object.proofs.ReadBackWords.{HasBytes, has_at, has_same}
-use Rattle.bpf_object.proofs.ReadBackNumbers.{Number, byte, half, word, long, spell, Read, read_all}
+use Rattle.bpf_object.proofs.ReadBackNumbers.{Number, byte, half, word, long, encode, Read, read_all}
 use Rattle.bpf_object.proofs.ReadBackFile.{IsWritable, has_header, half_is, word_is, long_is}
 use Rattle.bpf_object.proofs.ReadBackSections.{content_here}
 use Rattle.bpf_object.proofs.ReadBackRows.{rows, length-rows, row_here}
@@ -28,10 +28,10 @@ length-symbol_row Big name info other shndx value size = refl
 abbrev symbol_numbers : ℕ → ℕ → ℕ → ℕ → ℕ → ℕ → List Number
 symbol_numbers name info other shndx value size = word name ∷ byte info ∷ byte other ∷ half shndx ∷ long value ∷ long size ∷ []
 
-symbol_spelled : (o : Order) (name info other shndx value size : ℕ)
-    → symbol_row o name info other shndx value size ≡ spell o (symbol_numbers name info other shndx value size)
-symbol_spelled Little name info other shndx value size = refl
-symbol_spelled Big name info other shndx value size = refl
+symbol_encoded : (o : Order) (name info other shndx value size : ℕ)
+    → symbol_row o name info other shndx value size ≡ encode o (symbol_numbers name info other shndx value size)
+symbol_encoded Little name info other shndx value size = refl
+symbol_encoded Big name info other shndx value size = refl
 
 -- the fields of a symbol
 pub record HasSymbol (b : List ℕ) (j name info other shndx value size : ℕ) : Type 0 where
@@ -62,8 +62,8 @@ has_symbol b o j name info other shndx value size order name_fits shndx_fits val
     let numbers = symbol_numbers name info other shndx value size in
     symbol_read b o j name info other shndx value size order
     (read_all o b (symbol_place b j) 0 numbers (name_fits, (tt, (tt, (shndx_fits, (value_fits, (size_fits, tt))))))
-    (has_at b (symbol_place b j) (symbol_place b j + 0) (spell o numbers)
-    (has_same b (symbol_place b j) (symbol_row o name info other shndx value size) (spell o numbers) h (symbol_spelled o name info other shndx value size)) (sym (add-zero _))))
+    (has_at b (symbol_place b j) (symbol_place b j + 0) (encode o numbers)
+    (has_same b (symbol_place b j) (symbol_row o name info other shndx value size) (encode o numbers) h (symbol_encoded o name info other shndx value size)) (sym (add-zero _))))
 
 -- ---- a row of a table of relocations
 
@@ -75,9 +75,9 @@ pub length-relocation_row : (o : Order) (offset symbol type : ℕ) → length (r
 length-relocation_row Little offset symbol type = refl
 length-relocation_row Big offset symbol type = refl
 
-relocation_spelled : (o : Order) (offset symbol type : ℕ) → relocation_row o offset symbol type ≡ spell o (long offset ∷ long (type + 2 ^ 32 * symbol) ∷ [])
-relocation_spelled Little offset symbol type = refl
-relocation_spelled Big offset symbol type = refl
+relocation_encoded : (o : Order) (offset symbol type : ℕ) → relocation_row o offset symbol type ≡ encode o (long offset ∷ long (type + 2 ^ 32 * symbol) ∷ [])
+relocation_encoded Little offset symbol type = refl
+relocation_encoded Big offset symbol type = refl
 
 -- the fields of a relocation
 pub record HasRelocation (b : List ℕ) (i k offset symbol type : ℕ) : Type 0 where
@@ -109,8 +109,8 @@ has_relocation b o i k offset symbol type order offset_fits symbol_fits type_fit
     let numbers = long offset ∷ long (type + 2 ^ 32 * symbol) ∷ [] in
     relocation_read b o i k offset symbol type order type_fits
     (read_all o b (relocation_place b i k) 0 numbers (offset_fits, (omega arith, tt))
-    (has_at b (relocation_place b i k) (relocation_place b i k + 0) (spell o numbers)
-    (has_same b (relocation_place b i k) (relocation_row o offset symbol type) (spell o numbers) h (relocation_spelled o offset symbol type)) (sym (add-zero _))))
+    (has_at b (relocation_place b i k) (relocation_place b i k + 0) (encode o numbers)
+    (has_same b (relocation_place b i k) (relocation_row o offset symbol type) (encode o numbers) h (relocation_encoded o offset symbol type)) (sym (add-zero _))))
 
 -- ---- tables in a file
 

@@ -1,4 +1,4 @@
--- Bytes that stand at an offset of others, and the numbers that they spell there.
+-- Bytes that stand at an offset of others, and the numbers that they encode there.
 use Rattle.std.proofs.Common.{◌≡◌, ℕ, ◌+◌, ◌^◌, ◌<◌, ◌≤◌, List, [], ◌++◌, length, take, drop, refl, sym, ap, ◌∙◌, add_assoc, append-nil, append_assoc, length-append, arith}
 use Rattle.std.specs.Prelude.{slice_index}
 use Rattle.std.proofs.lemmas.List.{drop_at, take_at, get_or-append-add, get_or_append_left}

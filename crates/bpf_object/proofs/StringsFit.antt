@@ -1,18 +1,18 @@
 -- All strings of a file: they begin and end with a NUL, and are few.
-use Rattle.std.proofs.Common.{◌≡◌, ℕ, ◌+◌, ◌-◌, ◌<◌, ◌≤◌, Bool, true, false, Option, Some, None, List, [], ◌++◌, length, drop, map, inl, inr, refl, sym, ap, ◌∙◌, subst, length-append, length-take, length-drop, arith}
+use Rattle.std.proofs.Common.{◌≡◌, ℕ, ◌+◌, ◌-◌, ◌<◌, ◌≤◌, Bool, true, false, cond, Option, Some, None, List, [], ◌++◌, length, drop, map, inl, inr, refl, sym, ap, ◌∙◌, subst, length-append, length-take, length-drop, arith}
 use Rattle.std.specs.Prelude.{◌↔◌, IsSome, IfSome, MatchOption, nat_le, is_some, slice_index}
 use Rattle.std.specs.Borrow.{Bor}
 use Rattle.std.proofs.lemmas.Bool.{cases_lt, leb-true}
 use Rattle.bpf_elf.specs.{ElfRules.IsElf, ElfRules.head_rules, ElfRules.all_section_rules, ElfRules.all_symbol_rules, Header.FILE_LIMIT, Header.ident_rules, Header.header_rules}
 use Rattle.bpf_elf.specs.Numbers.{names, offset, link}
 use Rattle.bpf_elf.specs.Sections.{content, file_size}
-use Rattle.bpf_elf.specs.Symbols.{symbols, symbol_strings}
+use Rattle.bpf_elf.specs.Symbols.{symbols, symbol_strings, has_one_string_table}
 use Rattle.bpf_elf.proofs.RuleLemmas.{first_hold}
 use Rattle.btf_raw.specs.Header.{HasNulEnds}
 use Rattle.bpf_canon.specs.btf.strings.{FirstUses.noted_all, NamesByPlace.NamesByPlace, DistinctNames.distinct_table}
 use Rattle.btf_types.specs.Reading.{text_from}
 use Rattle.bpf_object.specs.{Canonical.strings_of, FileWith.strings_with}
-use Rattle.bpf_object.specs.FileStrings.{file_table, HasOwnStrings, section_strings, all_strings, own_strings, file_offsets}
+use Rattle.bpf_object.specs.FileStrings.{file_table, HasOwnStrings, section_strings, other_strings, all_strings, own_strings, file_offsets}
 use Rattle.bpf_object.specs.Written.{content_of}
 use Rattle.bpf_object.proofs.CanonRules.{rule_holds}
 use Rattle.bpf_object.proofs.NamedLemmas.{names_closed, table_is}
@@ -30,11 +30,18 @@ content_short b i h =
     let short = file_short b h in
     omega (arith, short, length-take (file_size b i) (drop (offset b i) b), length-drop (offset b i) b)
 
+shorter : (xs : List ℕ) (n : ℕ) (one : Bool) → length xs ≤ n → length (cond one [] xs) ≤ n
+shorter xs n true h = omega arith
+shorter xs n false h = h
+
+other_short : (b : List ℕ) → IsElf b → length (other_strings b) ≤ FILE_LIMIT
+other_short b h = shorter (symbol_strings b) FILE_LIMIT (has_one_string_table b) (content_short b (link b (symbols b)) h)
+
 pub all_few : (b : List ℕ) → IsElf b → length (all_strings b) < 4294967296
 all_few b h =
     let first = content_short b (names b) h in
-    let second = content_short b (link b (symbols b)) h in
-    omega (arith, first, second, length-append (section_strings b) (symbol_strings b ++ own_strings), length-append (symbol_strings b) own_strings)
+    let second = other_short b h in
+    omega (arith, first, second, length-append (section_strings b) (other_strings b ++ own_strings), length-append (other_strings b) own_strings)
 
 ends_with : (xs ys : List ℕ) (z : ℕ) → HasNulEnds xs → HasNulEnds (xs ++ (ys ++ own_strings))
 ends_with xs ys z h =
@@ -51,7 +58,7 @@ ends_with xs ys z h =
     }
 
 pub all_ends : (b : List ℕ) → IsElf b → HasNulEnds (all_strings b)
-all_ends b h = ends_with (section_strings b) (symbol_strings b) 0 (ends_from_closed (section_strings b) (names_closed b h))
+all_ends b h = ends_with (section_strings b) (other_strings b) 0 (ends_from_closed (section_strings b) (names_closed b h))
 
 pub own_strings_are : (b : List ℕ) (types extension : Option (Bor (List ℕ))) (names : NamesByPlace) (start : List ℕ) (has_types has_extension : Bool)
     → names.strings ≡ all_strings b → names.offsets ≡ noted_all start (file_offsets b has_types has_extension) → start ≡ [] → has_types ≡ is_some types

@@ -6,7 +6,7 @@ use Rattle.bpf_words.specs.declared.Order.{Order}
 use Rattle.btf_raw.specs.Frames.{bytes_of, section_of}
 use Rattle.btf_raw.specs.Header.{header}
 use Rattle.btf_raw.proofs.{Cuts.length-header, Frames.length-bytes_of}
-use Rattle.btf_types.specs.Spelling.{head_tail}
+use Rattle.btf_types.specs.Encoding.{head_tail}
 use Rattle.btf_types.specs.Values.{TypeItem, Member, EnumValue, Value64, Param, Entry, TypeRecord}
 use Rattle.btf_types.specs.{Sections.SectionWords, Sections.records_in, strings.StringTable.place_of, tables.TableInvariant.IsTable}
 use Rattle.bpf_canon.specs.btf.CanonicalBtf.{words_of_item, record_words}

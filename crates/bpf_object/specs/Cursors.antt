@@ -1,4 +1,3 @@
--- Only private contracts cite this file.
 -- The groups that a loop over a part has left.
 use Rattle.std.specs.Prelude.{ℕ, suc, List, [], Option, Some, None}
 use Rattle.bpf_object.specs.declared.extension.Part.{Part}

@@ -1,9 +1,8 @@
--- Only private contracts cite this file.
 -- The strings of .strtab, by their offsets in all strings of the file, one table after the other.
 use Rattle.std.specs.Prelude.{◌≡◌, ℕ, ◌+◌, Bool, List, [], ◌∷◌, ◌++◌, length, map, Option, is_some, codes, if◌then◌else◌}
 use Rattle.bpf_elf.specs.Numbers.{count, names, name_off}
 use Rattle.bpf_elf.specs.Sections.{content}
-use Rattle.bpf_elf.specs.Symbols.{symbol_count, symbol_strings, is_kept_symbol, st_name}
+use Rattle.bpf_elf.specs.Symbols.{symbol_count, symbol_strings, has_one_string_table, is_kept_symbol, st_name}
 use Rattle.bpf_canon.specs.btf.strings.{FirstUses.noted_all, NamesByPlace.NamesByPlace, DistinctNames.distinct_table}
 use Rattle.btf_types.specs.Reading.{text_from}
 use Rattle.bpf_object.specs.declared.file_strings.OwnSection.{OwnSection}
@@ -27,26 +26,26 @@ own_name Extension = codes ".BTF.ext"
 own_name Symbols = codes ".symtab"
 own_name Strings = codes ".strtab"
 
--- the names of the sections, then those of the symbols, then these
+-- the names of the sections, then those of the symbols if they are in another table, then these
 abbrev pub section_strings : List ℕ → List ℕ
 section_strings b = content b (names b)
 
+abbrev pub other_strings : List ℕ → List ℕ
+other_strings b = if has_one_string_table b then [] else symbol_strings b
+
 abbrev pub all_strings : List ℕ → List ℕ
-all_strings b = section_strings b ++ (symbol_strings b ++ own_strings)
+all_strings b = section_strings b ++ (other_strings b ++ own_strings)
 
 -- where the names of the symbols begin, and these
 abbrev pub symbols_at : List ℕ → ℕ
-symbols_at b = length (section_strings b)
+symbols_at b = if has_one_string_table b then 0 else length (section_strings b)
 
 abbrev pub own_at : List ℕ → ℕ
-own_at b = symbols_at b + length (symbol_strings b)
+own_at b = length (section_strings b) + length (other_strings b)
 
 -- ---- the offsets of the strings of .strtab
 
--- that of a section, if it is kept
-abbrev pub section_offset : List ℕ → ℕ → List ℕ
-section_offset b i = if is_kept_section b i then name_off b i ∷ [] else []
-
+-- those of the sections that are kept
 abbrev pub section_offsets : List ℕ → List ℕ
 section_offsets b = listed (is_kept_section b) (name_off b) (count b)
 
@@ -59,10 +58,6 @@ own_offsets b has_types has_extension = types_offsets b has_types has_extension 
 
 abbrev pub symbol_off : List ℕ → ℕ → ℕ
 symbol_off b j = symbols_at b + st_name b j
-
--- that of a symbol, if it is kept
-abbrev pub symbol_offset : List ℕ → ℕ → List ℕ
-symbol_offset b j = if is_kept_symbol b j then symbol_off b j ∷ [] else []
 
 abbrev pub symbol_offsets : List ℕ → List ℕ
 symbol_offsets b = listed (is_kept_symbol b) (symbol_off b) (symbol_count b)

@@ -1,4 +1,3 @@
--- Only private contracts cite this file.
 -- The canonical file of what a file keeps, with these bytes of .BTF and .BTF.ext.
 use Rattle.std.specs.Prelude.{◌≡◌, true, false, MatchOption, Vec, ℕ, ◌+◌, ◌&&◌, nat_lt, nat_le, Bool, List, [], ◌∷◌, ◌++◌, Option, Some, None, length, map, codes, slice_index_or, if◌then◌else◌}
 use Rattle.std.specs.List.{flat_map}

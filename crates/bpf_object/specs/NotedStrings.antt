@@ -1,4 +1,3 @@
--- Only private contracts cite this file.
 -- The strings of .BTF.ext, whose new places are known.
 use Rattle.std.specs.Prelude.{◌≡◌, ℕ, ◌<◌, List, length}
 use Rattle.std.specs.List.{All, Contains}

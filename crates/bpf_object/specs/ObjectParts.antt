@@ -1,4 +1,3 @@
--- Only private contracts cite this file.
 -- The contents that are written anew.
 use Rattle.std.specs.Prelude.{◌≡◌, ℕ, ◌+◌, ◌*◌, ◌&&◌, nat_lt, nat_le, slice_index_or, Bool, Option, is_some, List, [], ◌∷◌, ◌++◌, length, codes, if◌then◌else◌}
 use Rattle.bpf_elf.specs.{Numbers.count, Symbols.symbol_count}

@@ -1,4 +1,3 @@
--- Only private contracts cite this file.
 -- The kept sections as they are written.
 use Rattle.std.specs.Prelude.{ℕ, List, [], ◌∷◌, map, if◌then◌else◌}
 use Rattle.bpf_elf.specs.Numbers.{order_of}

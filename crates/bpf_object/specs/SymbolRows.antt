@@ -1,4 +1,3 @@
--- Only private contracts cite this file.
 -- The bytes of the kept symbols, one after the other.
 use Rattle.std.specs.Prelude.{ℕ, zero, suc, ◌&&◌, List, [], ◌∷◌, ◌++◌, if◌then◌else◌}
 use Rattle.std.specs.List.{flat_map}

@@ -1,4 +1,3 @@
--- Only private contracts cite this file.
 -- The bytes of the tables of relocations, one after the other.
 use Rattle.std.specs.Prelude.{ℕ, zero, suc, true, List, [], ◌++◌, if◌then◌else◌}
 use Rattle.std.specs.List.{flat_map}

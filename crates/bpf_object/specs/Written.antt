@@ -1,4 +1,3 @@
--- Only private contracts cite this file.
 -- The bytes that may be there.
 use Rattle.std.specs.Prelude.{ℕ, List, Option, Some, None}
 use Rattle.std.specs.Borrow.{Bor}

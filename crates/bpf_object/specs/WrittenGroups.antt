@@ -1,4 +1,3 @@
--- Only private contracts cite this file.
 -- The bytes of the groups of .BTF.ext, from the places of the groups in the section that is read.
 use Rattle.std.specs.Prelude.{ℕ, zero, suc, true, List, [], ◌∷◌, ◌++◌}
 use Rattle.std.specs.List.{flat_map}

@@ -1,4 +1,3 @@
--- Only private contracts cite this file.
 -- .BTF and .BTF.ext of a canonical file, from those that are read.
 use Rattle.std.specs.Prelude.{◌≡◌, ◌⊎◌, ℕ, true, List, [], ◌++◌, Some}
 use Rattle.std.specs.List.{All}

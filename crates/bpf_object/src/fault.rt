@@ -60,19 +60,19 @@ pub enum ObjectCause {
     #[error("a part of .BTF.ext isn't inside the section, or not aligned to 4 bytes")]
     ExtensionPart,
     /// Reported at the part.
-    #[error("the records of a part of .BTF.ext don't have the size of the part")]
+    #[error("the record size of a part of .BTF.ext isn't 8 (functions) or 16 (lines, CO-RE relocations)")]
     ExtensionRecordSize,
     /// Reported at the group.
     #[error("a group of records extends past the end of its part, or is empty")]
     ExtensionGroup,
     /// Reported at the group, or at access_str_off.
-    #[error("a string of .BTF.ext isn't inside the strings of .BTF, or no section can have this name")]
+    #[error("a string of .BTF.ext isn't inside the strings of .BTF, or is too long for the name of a section")]
     ExtensionString,
     /// Reported at the group.
-    #[error("functions and source lines don't belong to one another")]
+    #[error("functions and source lines of .BTF.ext don't match")]
     ExtensionLines,
     /// Reported at 0.
-    #[error("the canonical file, or its .BTF, is larger than a file may be")]
+    #[error("the canonical file has more than 64 MiB, or its .BTF more than 15 MiB")]
     ResultTooLarge,
 }
 

@@ -208,10 +208,11 @@ pub fn write_file<A: Allocator>(
         ≡ spec.file_of order flags (section_at sections.now) (length sections.now)) }
 {
     let count = sections.len() as u16 + 1;
-    let mut out = Vec::new(alloc);
+    let table = table_place(sections);
+    let mut out = Vec::with_capacity(alloc, table as usize + 64 * usize::from(count))?;
     push_ident(&mut out, order)?;
     push_type(&mut out, order)?;
-    push_table(&mut out, order, flags, table_place(sections), count)?;
+    push_table(&mut out, order, flags, table, count)?;
     push_contents(&mut out, sections)?;
     push_section_headers(&mut out, order, sections)?;
     Ok(out)

@@ -8,7 +8,7 @@ ghost use Rattle.bpf_elf.specs.Symbols.{symbol_count, symbol_name};
 ghost use Rattle.bpf_object.specs.FileStrings as spec;
 ghost use Rattle.bpf_object.specs.NotedStrings.{placed};
 
-use crate::file_strings::{OwnSection, own_at, own_off, symbol_off};
+use crate::file_strings::{OwnSection, own_off, symbol_off};
 use bpf_canon::DistinctPlaces;
 use bpf_elf::Elf;
 use std::alloc::Allocator;
@@ -51,5 +51,5 @@ pub(crate) fn own_place<A: Allocator>(
     requires noted { Contains names.now.offsets (spec.own_at elf.now + spec.own_off own) }
     ensures { result ≡ placed names.now (spec.own_name own) }
 {
-    names.place((own_at(elf) + own_off(own)) as u32)
+    names.place(own_off(elf, own))
 }

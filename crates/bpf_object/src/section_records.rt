@@ -84,8 +84,8 @@ fn count_of(group: Option<SectionGroup<'_>>) -> usize
 #[derive(Drop)]
 pub struct Functions<'a> {
     group: Option<SectionGroup<'a>>,
-    /// The numbers of the records not yet returned.
-    left: Range<usize>,
+    /// The numbers of those not yet returned.
+    functions: Range<usize>,
 }
 
 impl<'a> Model for Functions<'a> {
@@ -97,9 +97,9 @@ impl<'a> Model for Functions<'a> {
 
     ghost Value = { List Function };
 
-    ghost view = { λ r. left_of function_at r.group r.left.start r.left.end };
+    ghost view = { λ r. left_of function_at r.group r.functions.start r.functions.end };
 
-    ghost invariant = { λ r. IsLeft parts.Functions r.group r.left.start r.left.end };
+    ghost invariant = { λ r. IsLeft parts.Functions r.group r.functions.start r.functions.end };
 }
 
 impl<'a> Functions<'a> {
@@ -110,7 +110,7 @@ impl<'a> Functions<'a> {
     {
         Functions {
             group,
-            left: 0..count_of(group),
+            functions: 0..count_of(group),
         }
     }
 }
@@ -124,7 +124,7 @@ impl<'a> Iterator for Functions<'a> {
 
     fn next(&mut self) -> Option<FunctionRecord> {
         let group = self.group?;
-        let k = self.left.next()?;
+        let k = self.functions.next()?;
         Some(function_record(group, k))
     }
 
@@ -133,14 +133,14 @@ impl<'a> Iterator for Functions<'a> {
         ensures lower { IsWithinCount result.0 (item_count (λ left. left) self.now) }
         ensures upper { IfSome result.1 (UpTo (item_count (λ left. left) self.now)) }
     {
-        let len = self.len();
-        (len, Some(len))
+        let functions = self.len();
+        (functions, Some(functions))
     }
 }
 
 impl ExactSizeIterator for Functions<'_> {
     fn len(&self) -> usize {
-        self.left.len()
+        self.functions.len()
     }
 }
 
@@ -151,8 +151,8 @@ impl FusedIterator for Functions<'_> {}
 #[derive(Drop)]
 pub struct Lines<'a> {
     group: Option<SectionGroup<'a>>,
-    /// The numbers of the records not yet returned.
-    left: Range<usize>,
+    /// The numbers of those not yet returned.
+    lines: Range<usize>,
 }
 
 impl<'a> Model for Lines<'a> {
@@ -164,9 +164,9 @@ impl<'a> Model for Lines<'a> {
 
     ghost Value = { List NumberedLine };
 
-    ghost view = { λ r. left_of numbered_line_at r.group r.left.start r.left.end };
+    ghost view = { λ r. left_of numbered_line_at r.group r.lines.start r.lines.end };
 
-    ghost invariant = { λ r. IsLeft parts.Lines r.group r.left.start r.left.end };
+    ghost invariant = { λ r. IsLeft parts.Lines r.group r.lines.start r.lines.end };
 }
 
 impl<'a> Lines<'a> {
@@ -177,7 +177,7 @@ impl<'a> Lines<'a> {
     {
         Lines {
             group,
-            left: 0..count_of(group),
+            lines: 0..count_of(group),
         }
     }
 }
@@ -191,7 +191,7 @@ impl<'a> Iterator for Lines<'a> {
 
     fn next(&mut self) -> Option<LineRecord<'a>> {
         let group = self.group?;
-        let k = self.left.next()?;
+        let k = self.lines.next()?;
         Some(line_record(group, k))
     }
 
@@ -200,14 +200,14 @@ impl<'a> Iterator for Lines<'a> {
         ensures lower { IsWithinCount result.0 (item_count (λ left. left) self.now) }
         ensures upper { IfSome result.1 (UpTo (item_count (λ left. left) self.now)) }
     {
-        let len = self.len();
-        (len, Some(len))
+        let lines = self.len();
+        (lines, Some(lines))
     }
 }
 
 impl ExactSizeIterator for Lines<'_> {
     fn len(&self) -> usize {
-        self.left.len()
+        self.lines.len()
     }
 }
 

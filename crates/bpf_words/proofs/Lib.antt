@@ -1,5 +1,5 @@
 pub mod WordLemmas
-pub mod OneSpelling
+pub mod OneEncoding
 pub mod SlotLemmas
 pub mod SwappedBytes
 pub mod SwappedSlots

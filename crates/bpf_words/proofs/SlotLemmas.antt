@@ -1,13 +1,13 @@
--- Any 8 bytes are the spelling of a slot, and a spelling has 8 bytes.
+-- Any 8 bytes are the encoding of a slot, and an encoding has 8 bytes.
 use Rattle.std.proofs.Common.{◌≡◌, ℕ, ◌^◌, ◌<◌, List, [], ◌∷◌, ◌++◌, length, refl, ap, sym, ◌∙◌, arith}
 use Rattle.std.specs.Int.{w16, w32, cast_unsigned, cast_signed}
 use Rattle.std.proofs.lemmas.Int.{ints, of_z-to_z}
 use Rattle.bpf_words.specs.declared.Order.{Order, TheVariants.Little, TheVariants.Big}
 use Rattle.bpf_words.specs.Words.{IsBytes, word16, word32, word16_at, word32_at}
-use Rattle.bpf_words.specs.Slots.{Fields, AreFields, dst_half, fields, register_byte, spelled, src_half}
+use Rattle.bpf_words.specs.Slots.{Fields, AreFields, dst_half, fields, register_byte, encoded, src_half}
 use Rattle.bpf_words.proofs.WordLemmas.{IsBytes-take, IsBytes-drop, word16-word16_at, word32-word32_at, word32_at-below}
 
-pub slot_length : (order : Order) (f : Fields) → length (spelled order f) ≡ 8
+pub slot_length : (order : Order) (f : Fields) → length (encoded order f) ≡ 8
 slot_length Little f = refl
 slot_length Big f = refl
 
@@ -27,7 +27,7 @@ word16_below : (order : Order) (bytes : List ℕ) → IsBytes bytes → word16_a
 word16_below Little bytes h = omega (arith, h 0, h 1)
 word16_below Big bytes h = omega (arith, h 0, h 1)
 
-pub any_slot : (order : Order) (bytes : List ℕ) → length bytes ≡ 8 → IsBytes bytes → (slot : Fields) × (AreFields slot × (bytes ≡ spelled order slot))
+pub any_slot : (order : Order) (bytes : List ℕ) → length bytes ≡ 8 → IsBytes bytes → (slot : Fields) × (AreFields slot × (bytes ≡ encoded order slot))
 any_slot order (op ∷ registers ∷ c ∷ d ∷ e ∷ f ∷ g ∷ h ∷ []) n fits =
     let offset : IsBytes (c ∷ d ∷ []) = IsBytes-take 2 (c ∷ d ∷ e ∷ f ∷ g ∷ h ∷ []) (IsBytes-drop 2 (op ∷ registers ∷ c ∷ d ∷ e ∷ f ∷ g ∷ h ∷ []) fits) in
     let immediate : IsBytes (e ∷ f ∷ g ∷ h ∷ []) = IsBytes-drop 4 (op ∷ registers ∷ c ∷ d ∷ e ∷ f ∷ g ∷ h ∷ []) fits in

@@ -3,7 +3,7 @@ use Rattle.std.proofs.Common.{◌≡◌, ◌≢◌, ◌<◌, ◌+◌, ◌*◌, �
 use Rattle.std.specs.Int.{w64, from_le_bytes, to_le_bytes}
 use Rattle.std.proofs.lemmas.Nat.{and_block, and_mask, le_bytes_8}
 use Rattle.bpf_words.specs.declared.Order.{Order}
-use Rattle.bpf_words.specs.{Words.IsBytes, Slots.AreFields, Slots.Fields, Slots.spelled}
+use Rattle.bpf_words.specs.{Words.IsBytes, Slots.AreFields, Slots.Fields, Slots.encoded}
 
 -- ---- the bytes of halfwords exchanged
 
@@ -66,13 +66,13 @@ number_exchanged : (s : List ℕ) (word halfwords : ℕ) → length s ≡ 8 → 
 number_exchanged s word halfwords long fits is parts = omega arith
 
 -- the bytes of a slot, read as numbers and exchanged, are those in the other order
-exchanged_spelled : (order to : Order) → order ≢ to → (f : Fields) → AreFields f → exchanged (spelled order f) ≡ spelled to f
-exchanged_spelled order to other f fit = grind arith
+exchanged_encoded : (order to : Order) → order ≢ to → (f : Fields) → AreFields f → exchanged (encoded order f) ≡ encoded to f
+exchanged_encoded order to other f fit = grind arith
 
 pub slot_swapped : (order to : Order) → order ≢ to → (s : List ℕ) (word halfwords n : ℕ) → length s ≡ 8 → IsBytes s → word ≡ from_le_bytes w64 s
     → halfwords ≡ swapped_halfwords word
     → n ≡ slot_number word halfwords
-    → (f : Fields) → AreFields f → s ≡ spelled order f → to_le_bytes w64 n ≡ spelled to f
+    → (f : Fields) → AreFields f → s ≡ encoded order f → to_le_bytes w64 n ≡ encoded to f
 slot_swapped order to other s word halfwords n long fits is parts whole f fit read =
     le_bytes_8 (exchanged s) n refl (exchanged_fit s fits) (whole ∙ number_exchanged s word halfwords long fits is parts)
-    ∙ ap exchanged read ∙ exchanged_spelled order to other f fit
+    ∙ ap exchanged read ∙ exchanged_encoded order to other f fit

@@ -37,10 +37,10 @@ src_half Little b = b / 16
 src_half Big b = b % 16
 
 -- the 8 bytes of five fields in a byte order; a signed field is its two's complement pattern
-abbrev pub spelled : Order → Fields → List ℕ
-spelled order f =
+abbrev pub encoded : Order → Fields → List ℕ
+encoded order f =
     (f.opcode ∷ register_byte order f.dst f.src ∷ word16 order (cast_unsigned w16 f.off)) ++ word32 order (cast_unsigned w32 f.imm)
 
 -- the bytes are these slots in a byte order, and a rest that is shorter than a slot
 abbrev pub AreSlots : Order → List ℕ → List Fields → List ℕ → Type 0
-AreSlots order bytes slots rest = All AreFields slots × (length rest < 8) × (bytes ≡ flat_map (spelled order) slots ++ rest)
+AreSlots order bytes slots rest = All AreFields slots × (length rest < 8) × (bytes ≡ flat_map (encoded order) slots ++ rest)

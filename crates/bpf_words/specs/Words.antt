@@ -17,12 +17,12 @@ abbrev pub word32 : Order → ℕ → List ℕ
 word32 Little n = to_le_bytes w32 n
 word32 Big n = to_be_bytes w32 n
 
--- the number that the 2 bytes at an offset spell
+-- the number that the 2 bytes at an offset encode
 abbrev pub word16_at : Order → List ℕ → ℕ → ℕ
 word16_at Little b i = slice_index b i + 0x100 * slice_index b (i + 1)
 word16_at Big b i = slice_index b (i + 1) + 0x100 * slice_index b i
 
--- the number that the 4 bytes at an offset spell
+-- the number that the 4 bytes at an offset encode
 abbrev pub word32_at : Order → List ℕ → ℕ → ℕ
 word32_at Little b i =
     slice_index b i + 0x100 * slice_index b (i + 1) + 0x10000 * slice_index b (i + 2) + 0x1000000 * slice_index b (i + 3)

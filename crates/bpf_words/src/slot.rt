@@ -28,7 +28,7 @@
 
 ghost use Rattle.std.specs.Prelude.{◌≡◌, ◌≢◌, ◌+◌, ◌*◌, ◌/◌, ◌%◌, ℕ, List};
 ghost use Rattle.bpf_words.specs.declared.Order.{Order};
-ghost use Rattle.bpf_words.specs.Slots.{AreFields, AreSlots, Fields, spelled};
+ghost use Rattle.bpf_words.specs.Slots.{AreFields, AreSlots, Fields, encoded};
 
 use crate::Order;
 use byteorder::{BigEndian, ByteOrder, LittleEndian};
@@ -74,7 +74,7 @@ impl Model for Slot {
 
 /// Returns the slot that 8 bytes encode (RFC 9669 section 3). Any 8 bytes encode one.
 pub fn slot_of(order: Order, bytes: &[u8; 8]) -> Slot
-    ensures spelled { bytes.now ≡ spelled order result }
+    ensures encoded { bytes.now ≡ encoded order result }
     ensures in_range { AreFields result }
 {
     match order {
@@ -97,7 +97,7 @@ pub fn slot_of(order: Order, bytes: &[u8; 8]) -> Slot
 
 /// Returns the 8 bytes of a slot (RFC 9669 section 3).
 pub fn slot_bytes(order: Order, slot: Slot) -> [u8; 8]
-    ensures spelled { result ≡ spelled order slot }
+    ensures encoded { result ≡ encoded order slot }
     ensures in_range { AreFields slot }
 {
     let mut bytes = [0; 8];
@@ -152,7 +152,7 @@ pub fn swap_slots(bytes: &mut [u8])
 #[inline(always)]
 pub fn swapped(slot: &[u8; 8]) -> [u8; 8]
     ensures { (order to : Order) → order ≢ to → (slot_fields : Fields) × (AreFields slot_fields
-        × ((slot.now ≡ spelled order slot_fields) × (result ≡ spelled to slot_fields))) }
+        × ((slot.now ≡ encoded order slot_fields) × (result ≡ encoded to slot_fields))) }
 {
     let word = u64::from_le_bytes(*slot);
     let opcode = word % 0x100;

@@ -111,7 +111,7 @@ const SLOTS: [SlotRow; 6] = [
 ];
 
 /// Whether the slot has these bytes in an order, and these in the other one.
-fn is_spelled(order: Order, slot: Slot, bytes: &[u8; 8], other: &[u8; 8]) -> bool {
+fn is_encoded(order: Order, slot: Slot, bytes: &[u8; 8], other: &[u8; 8]) -> bool {
     slot_of(order, bytes) == slot && slot_bytes(order, slot) == *bytes && swapped(bytes) == *other
 }
 
@@ -119,11 +119,11 @@ fn is_spelled(order: Order, slot: Slot, bytes: &[u8; 8], other: &[u8; 8]) -> boo
 fn slots_are_read_and_written_in_both_orders(rt: HostRuntime) {
     for row in &SLOTS {
         assert!(rt;
-            is_spelled(Order::Little, row.slot, &row.little, &row.big),
+            is_encoded(Order::Little, row.slot, &row.little, &row.big),
             "{row:?}"
         );
         assert!(rt;
-            is_spelled(Order::Big, row.slot, &row.big, &row.little),
+            is_encoded(Order::Big, row.slot, &row.big, &row.little),
             "{row:?}"
         );
     }

@@ -20,7 +20,7 @@ use std::alloc::{AllocError, Allocator};
 /// Both bytes must be inside the slice.
 pub fn get16(order: Order, bytes: &[u8], pos: usize) -> u16
     requires { pos + 2 ≤ length bytes.now }
-    ensures spelled { slice_range bytes.now pos (pos + 2) ≡ word16 order result }
+    ensures encoded { slice_range bytes.now pos (pos + 2) ≡ word16 order result }
     ensures value { result ≡ word16_at order bytes.now pos }
 {
     let word = &bytes[pos..pos + 2];
@@ -35,7 +35,7 @@ pub fn get16(order: Order, bytes: &[u8], pos: usize) -> u16
 /// All four bytes must be inside the slice.
 pub fn get32(order: Order, bytes: &[u8], pos: usize) -> u32
     requires { pos + 4 ≤ length bytes.now }
-    ensures spelled { slice_range bytes.now pos (pos + 4) ≡ word32 order result }
+    ensures encoded { slice_range bytes.now pos (pos + 4) ≡ word32 order result }
     ensures value { result ≡ word32_at order bytes.now pos }
 {
     let word = &bytes[pos..pos + 4];

@@ -4,7 +4,7 @@ use Rattle.std.proofs.Math.Seq.{drop-append_seam}
 use Rattle.std.proofs.lemmas.List.{append-nil, drop_all, take_all, Elements.All-cons, Elements.All-drop, Elements.All-head, Elements.All-nil, Elements.All-push, Elements.All-same, Concat.flat_map-append}
 use Rattle.bpf_words.specs.declared.Order.{Order}
 use Rattle.bpf_insn.specs.declared.{insn.Insn.Insn, fault.SlotFault.SlotFault, group.Group.Group, group.GroupSet.GroupSet}
-use Rattle.bpf_insn.specs.{Table.IsInsn, Spelling.spelling, Spelling.file_of, Spelling.InsnFile, Faults.BeginsWith, Faults.IsSlotFault, Groups.group_of, Groups.holds}
+use Rattle.bpf_insn.specs.{Table.IsInsn, Encoding.encoding, Encoding.file_of, Encoding.InsnFile, Faults.BeginsWith, Faults.IsSlotFault, Groups.group_of, Groups.holds}
 use Rattle.bpf_insn.proofs.FileLaws.{at_least_a_slot, begins_once, empty_begins_none}
 use Rattle.bpfcanon_object.specs.Target.{IsFirstOutside, IsWithin}
 
@@ -42,7 +42,7 @@ none_is order s (j ∷ more) each e none = absurd (none j (All-head IsInsn j mor
 
 module _ (order : Order) (target : GroupSet) (bytes : List ℕ) (at : ℕ) (h : AreWithinBefore order target bytes at) where
   whole : bytes ≡ file_of order h.before ++ file_of order h.after
-  whole = h.file.1 ∙ flat_map-append (spelling order) h.before h.after
+  whole = h.file.1 ∙ flat_map-append (encoding order) h.before h.after
 
   rest_is : take (length bytes - at) (drop at bytes) ≡ file_of order h.after
   rest_is =
@@ -64,26 +64,26 @@ module _ (order : Order) (target : GroupSet) (bytes : List ℕ) (at : ℕ) (h : 
       let P : List Insn → Type 0 = λ x. InsnFile order bytes (h.before ++ x) in
       subst P e h.file
 
-  pub moved_on : (i : Insn) (len : ℕ) → BeginsWith order i (take (length bytes - at) (drop at bytes)) × (len ≡ length (spelling order i)) → IsWithin (Some target) i
+  pub moved_on : (i : Insn) (len : ℕ) → BeginsWith order i (take (length bytes - at) (drop at bytes)) × (len ≡ length (encoding order i)) → IsWithin (Some target) i
       → AreWithinBefore order target bytes (at + len)
   moved_on i len b within =
       let next = next_is i b.0 in
       let P : List Insn → Type 0 = λ x. InsnFile order bytes x in
-      let one : file_of order (h.before ++ i ∷ []) ≡ file_of order h.before ++ spelling order i =
-      flat_map-append (spelling order) h.before (i ∷ []) ∙ ap (λ (x : List ℕ). file_of order h.before ++ x) (append-nil (spelling order i)) in
+      let one : file_of order (h.before ++ i ∷ []) ≡ file_of order h.before ++ encoding order i =
+      flat_map-append (encoding order) h.before (i ∷ []) ∙ ap (λ (x : List ℕ). file_of order h.before ++ x) (append-nil (encoding order i)) in
       record {
         before = h.before ++ i ∷ [];
         after = next.0;
         file = subst P (sym (append_assoc h.before (i ∷ []) next.0)) (file_with i next.0 next.1);
-        place = omega (arith, h.place, b.1, ap length one, length-append (file_of order h.before) (spelling order i));
+        place = omega (arith, h.place, b.1, ap length one, length-append (file_of order h.before) (encoding order i));
         within = All-push (IsWithin (Some target)) h.before i h.within within;
       }
 
-  pub smaller : (i : Insn) (len : ℕ) → BeginsWith order i (take (length bytes - at) (drop at bytes)) × (len ≡ length (spelling order i)) → IsWithin (Some target) i
+  pub smaller : (i : Insn) (len : ℕ) → BeginsWith order i (take (length bytes - at) (drop at bytes)) × (len ≡ length (encoding order i)) → IsWithin (Some target) i
       → length bytes - (at + len) < length bytes - at
   smaller i len b within =
       let next = moved_on i len b within in
-      let all : bytes ≡ file_of order next.before ++ file_of order next.after = next.file.1 ∙ flat_map-append (spelling order) next.before next.after in
+      let all : bytes ≡ file_of order next.before ++ file_of order next.after = next.file.1 ∙ flat_map-append (encoding order) next.before next.after in
       omega (arith, next.place, ap length all, length-append (file_of order next.before) (file_of order next.after), b.1, at_least_a_slot order i)
 
   pub outside_at : (i : Insn) (group : Group) → BeginsWith order i (take (length bytes - at) (drop at bytes)) → holds target group ≡ false → group ≡ group_of i
@@ -103,8 +103,8 @@ module _ (order : Order) (target : GroupSet) (bytes : List ℕ) (at : ℕ) (h : 
       }
 
   none_left : ((i : Insn) → ¬ BeginsWith order i (take (length bytes - at) (drop at bytes))) → (insns : List Insn) × (InsnFile order bytes insns × All (IsWithin (Some target)) insns)
-  none_left unspelled =
-      let none = none_is order _ h.after each_after rest_is unspelled in
+  none_left unencoded =
+      let none = none_is order _ h.after each_after rest_is unencoded in
       let P : List Insn → Type 0 = λ x. InsnFile order bytes (h.before ++ x) in
       let Q : List Insn → Type 0 = λ x. InsnFile order bytes x in
       (h.before, (subst Q (append-nil h.before) (subst P none h.file), h.within))
@@ -112,7 +112,7 @@ module _ (order : Order) (target : GroupSet) (bytes : List ℕ) (at : ℕ) (h : 
   -- what isn't an instruction can't follow
   pub at_fault : (fault : SlotFault) → IsSlotFault order (take (length bytes - at) (drop at bytes)) fault
       → (insns : List Insn) × (InsnFile order bytes insns × All (IsWithin (Some target)) insns)
-  at_fault fault f = none_left f.unspelled
+  at_fault fault f = none_left f.unencoded
 
   pub at_end : length bytes ≤ at → (insns : List Insn) × (InsnFile order bytes insns × All (IsWithin (Some target)) insns)
   at_end end =

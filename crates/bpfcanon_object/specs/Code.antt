@@ -8,7 +8,7 @@ use Rattle.bpf_elf.specs.{Kinds.has_flag, Kinds.is_kind, Numbers.flags, Numbers.
 use Rattle.bpf_elf.specs.Sections.{content, kind, name}
 use Rattle.bpf_object.specs.SourceLines.{Line, source_line}
 use Rattle.bpf_insn.specs.declared.{insn.Insn.Insn, group.GroupSet.GroupSet}
-use Rattle.bpf_insn.specs.{Faults.IsInsnFault, Spelling.InsnFile}
+use Rattle.bpf_insn.specs.{Faults.IsInsnFault, Encoding.InsnFile}
 use Rattle.bpfcanon_object.specs.{Formats.code_line, Target.IsFirstOutside, Target.IsWithin}
 use Rattle.bpfcanon_object.specs.declared.finding.{Finding.Finding, Reason.Reason, Reason.TheVariants.Fault, Reason.TheVariants.Outside}
 use Rattle.bpfcanon_object.specs.declared.check.Format.{Format}

@@ -1,13 +1,17 @@
 -- The lines of check, in its formats.
 use Rattle.std.specs.Prelude.{◌==◌, if◌then◌else◌, ◌++◌, ℕ, false, List, [], Option, Some, None, codes, decimal, encode_utf8}
 use Rattle.std.specs.List.{flat_map}
-use Rattle.std.specs.{Fmt.digits, Str.chars, Str.Lossy.utf8_lossy}
+use Rattle.std.specs.{Fmt.digits, Str.bytes_eq, Str.chars, Str.Lossy.utf8_lossy}
 use Rattle.bpf_object.specs.SourceLines.{Line}
 use Rattle.bpfcanon_object.specs.Escape.{escaped, is_control, two_digits}
 use Rattle.bpfcanon_object.specs.{Findings.reason_text, Lines.newline}
 use Rattle.bpfcanon_object.specs.declared.{check.Format.Format, check.Part.Part, finding.Finding.Finding}
 use Rattle.bpfcanon_object.specs.declared.check.Format.TheVariants.{Text, Json, Github}
 use Rattle.bpfcanon_object.specs.declared.check.Part.TheVariants.{Property, Message}
+
+-- the format with a name on the command line, text for any other
+abbrev pub format_named : List ℕ → Format
+format_named name = if bytes_eq name (codes "json") then Json else if bytes_eq name (codes "github") then Github else Text
 
 -- a control character of a JSON string, by its number
 abbrev pub json_control : ℕ → List ℕ

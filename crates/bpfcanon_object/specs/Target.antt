@@ -1,9 +1,13 @@
 -- The target of check: its conformance groups (RFC 9669 section 2.4), and the instructions in them.
-use Rattle.std.specs.Prelude.{◌≡◌, ◌++◌, ℕ, Bool, List, ◌∷◌, Option, Some, None, All, IsTrue, filter, length}
+use Rattle.std.specs.Prelude.{◌≡◌, ◌++◌, ℕ, Bool, List, ◌∷◌, Option, Some, None, All, IsTrue, filter, map, length}
 use Rattle.std.specs.{Borrow.Bor, List.list_any, Str.bytes_eq}
 use Rattle.bpf_words.specs.declared.Order.{Order}
 use Rattle.bpf_insn.specs.declared.{insn.Insn.Insn, group.Group.Group, group.GroupSet.GroupSet}
-use Rattle.bpf_insn.specs.{Groups.all_groups, Groups.group_name, Groups.group_of, Groups.holds, Spelling.InsnFile, Spelling.file_of}
+use Rattle.bpf_insn.specs.{Groups.all_groups, Groups.group_name, Groups.group_of, Groups.holds, Encoding.InsnFile, Encoding.file_of}
+
+-- the names of all groups
+abbrev pub group_names : List (List ℕ)
+group_names = map group_name all_groups
 
 -- whether a group is named
 abbrev pub is_named : List (Bor (List ℕ)) → Group → Bool

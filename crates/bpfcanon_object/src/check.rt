@@ -8,7 +8,6 @@ ghost use Rattle.bpfcanon_object.specs.Answers.{IsAcceptedAnswer, IsAnswerWith, 
 ghost use Rattle.bpfcanon_object.specs.Answers.{IsFaultAnswer};
 ghost use Rattle.bpfcanon_object.specs.Escape.{IsPrintable, is_control};
 ghost use Rattle.bpfcanon_object.specs.Formats as spec;
-ghost use Rattle.bpfcanon_object.specs.declared.check.Format.TheVariants.{Json, Github};
 
 use crate::answer::{Answer, Status, fault_answer};
 use crate::code_lines::code_lines;
@@ -34,7 +33,9 @@ impl Format {
     pub const NAMES: [&'static str; 3] = ["text", "json", "github"];
 
     /// The format with a name, `Text` for any other.
-    pub fn named(name: &str) -> Format {
+    pub fn named(name: &str) -> Format
+        ensures { result ≡ spec.format_named name.now }
+    {
         match name {
             "json" => Format::Json,
             "github" => Format::Github,
@@ -226,32 +227,6 @@ fn github_line<A: Allocator + Copy>(
     format!(in alloc; "::error file={file}::{name}: {pos}: {text}\n")
 }
 
-/// The answer for a file that is refused, as a JSON object.
-fn json_answer<A: Allocator + Copy>(
-    alloc: A,
-    name: &str,
-    fault: ObjectFault,
-) -> Result<Answer<A>, AllocError>
-    ensures { IfOk result (IsFaultAnswer Json name.now fault) }
-{
-    let cause = fault.cause.to_string(alloc)?;
-    let line = json_fault_line(alloc, name, fault.pos, cause.as_str())?;
-    Ok(Answer::of_lines(alloc, Status::No, line))
-}
-
-/// The answer for a file that is refused, as a workflow command.
-fn github_answer<A: Allocator + Copy>(
-    alloc: A,
-    name: &str,
-    fault: ObjectFault,
-) -> Result<Answer<A>, AllocError>
-    ensures { IfOk result (IsFaultAnswer Github name.now fault) }
-{
-    let cause = fault.cause.to_string(alloc)?;
-    let line = github_line(alloc, name, fault.pos, cause.as_str())?;
-    Ok(Answer::of_lines(alloc, Status::No, line))
-}
-
 /// The answer for a file that is refused.
 fn refused_answer<A: Allocator + Copy>(
     alloc: A,
@@ -263,8 +238,16 @@ fn refused_answer<A: Allocator + Copy>(
 {
     match format {
         Format::Text => fault_answer(alloc, name, fault),
-        Format::Json => json_answer(alloc, name, fault),
-        Format::Github => github_answer(alloc, name, fault),
+        Format::Json => {
+            let cause = fault.cause.to_string(alloc)?;
+            let line = json_fault_line(alloc, name, fault.pos, cause.as_str())?;
+            Ok(Answer::of_lines(alloc, Status::No, line))
+        }
+        Format::Github => {
+            let cause = fault.cause.to_string(alloc)?;
+            let line = github_line(alloc, name, fault.pos, cause.as_str())?;
+            Ok(Answer::of_lines(alloc, Status::No, line))
+        }
     }
 }
 

@@ -6,7 +6,6 @@ ghost use Rattle.bpf_object.specs.SourceLines.{line_value};
 ghost use Rattle.bpfcanon_object.specs.Code as code_spec;
 ghost use Rattle.bpfcanon_object.specs.Code.{AreCodeLines, IsFoundIn};
 ghost use Rattle.bpfcanon_object.specs.Formats as spec;
-ghost use Rattle.bpfcanon_object.specs.declared.check.Format.TheVariants.{Text, Json, Github};
 ghost use Rattle.bpfcanon_object.specs.declared.finding.Finding.{Finding};
 
 use crate::check::{Format, Part, github_text, json_line, json_text};
@@ -32,22 +31,6 @@ fn code_place<A: Allocator + Copy>(
     format!(in alloc; "{section}+0x{pos:x}: {reason}")
 }
 
-fn text_line<A: Allocator + Copy>(
-    alloc: A,
-    name: &str,
-    section: &str,
-    found: Finding,
-    source: Option<SourceLine<'_>>,
-) -> Result<String<A>, AllocError>
-    ensures { IfOk result (λ line. string_bytes line
-        ≡ spec.code_line Text name.now section.now found (option_map line_value source.entry)) }
-{
-    let name = escaped(alloc, name)?;
-    let place = code_place(alloc, section, found)?;
-    let source = text_source(alloc, source)?;
-    format!(in alloc; "{name}: {place}{source}\n")
-}
-
 /// The members of a JSON object for a place in a section, why it is reported, and its source line.
 fn json_code<A: Allocator + Copy>(
     alloc: A,
@@ -65,38 +48,6 @@ fn json_code<A: Allocator + Copy>(
     format!(in alloc; "\"section\":\"{section}\",\"offset\":{pos},\"text\":\"{reason}\"{source}")
 }
 
-fn json_code_line<A: Allocator + Copy>(
-    alloc: A,
-    name: &str,
-    section: &str,
-    found: Finding,
-    source: Option<SourceLine<'_>>,
-) -> Result<String<A>, AllocError>
-    ensures { IfOk result (λ line. string_bytes line
-        ≡ spec.code_line Json name.now section.now found (option_map line_value source.entry)) }
-{
-    let members = json_code(alloc, section, found, source)?;
-    json_line(alloc, name, members.as_str())
-}
-
-fn github_code_line<A: Allocator + Copy>(
-    alloc: A,
-    name: &str,
-    section: &str,
-    found: Finding,
-    source: Option<SourceLine<'_>>,
-) -> Result<String<A>, AllocError>
-    ensures { IfOk result (λ line. string_bytes line
-        ≡ spec.code_line Github name.now section.now found (option_map line_value source.entry)) }
-{
-    let source = github_source(alloc, name, source)?;
-    let name = escaped(alloc, name)?;
-    let place = code_place(alloc, section, found)?;
-    let name = github_text(alloc, Part::Message, name.as_str())?;
-    let text = github_text(alloc, Part::Message, place.as_str())?;
-    format!(in alloc; "::error {source}::{name}: {text}\n")
-}
-
 /// The line for what is reported of a section.
 fn code_line<A: Allocator + Copy>(
     alloc: A,
@@ -110,9 +61,24 @@ fn code_line<A: Allocator + Copy>(
         ≡ spec.code_line format name.now section.now found (option_map line_value source.entry)) }
 {
     match format {
-        Format::Text => text_line(alloc, name, section, found, source),
-        Format::Json => json_code_line(alloc, name, section, found, source),
-        Format::Github => github_code_line(alloc, name, section, found, source),
+        Format::Text => {
+            let name = escaped(alloc, name)?;
+            let place = code_place(alloc, section, found)?;
+            let source = text_source(alloc, source)?;
+            format!(in alloc; "{name}: {place}{source}\n")
+        }
+        Format::Json => {
+            let members = json_code(alloc, section, found, source)?;
+            json_line(alloc, name, members.as_str())
+        }
+        Format::Github => {
+            let source = github_source(alloc, name, source)?;
+            let name = escaped(alloc, name)?;
+            let place = code_place(alloc, section, found)?;
+            let name = github_text(alloc, Part::Message, name.as_str())?;
+            let text = github_text(alloc, Part::Message, place.as_str())?;
+            format!(in alloc; "::error {source}::{name}: {text}\n")
+        }
     }
 }
 

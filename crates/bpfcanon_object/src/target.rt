@@ -1,8 +1,8 @@
 //! The target of `check`: the conformance groups that it has (RFC 9669 section 2.4), and the first
 //! instruction that is in none of them.
 
-ghost use Rattle.std.specs.Prelude.{◌≡◌, List, Some, IfOk, filter};
-ghost use Rattle.bpf_insn.specs.{declared.insn.Insn.Insn, Spelling.InsnFile};
+ghost use Rattle.std.specs.Prelude.{◌≡◌, List, Some, IfOk, filter, map};
+ghost use Rattle.bpf_insn.specs.{declared.insn.Insn.Insn, Encoding.InsnFile};
 ghost use Rattle.bpf_insn.specs.GroupSets.{IsSetOf};
 ghost use Rattle.bpfcanon_object.specs.Code.{IsFound};
 ghost use Rattle.bpfcanon_object.specs.Target as spec;
@@ -13,7 +13,9 @@ use bpf_insn::{Group, GroupSet, Order, group_of, read_insn};
 use std::alloc::{AllocError, Allocator};
 
 /// The names of all groups.
-pub fn group_names<A: Allocator>(alloc: A) -> Result<Vec<&'static str, A>, AllocError> {
+pub fn group_names<A: Allocator>(alloc: A) -> Result<Vec<&'static str, A>, AllocError>
+    ensures { IfOk result (λ names. map (λ name. name.now) names.items ≡ spec.group_names) }
+{
     Group::ALL.iter().map(|group| group.name()).collect(alloc)
 }
 

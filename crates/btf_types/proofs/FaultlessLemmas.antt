@@ -1,8 +1,8 @@
--- A file has no fault if and only if its frames spell good records.
+-- A file has no fault if and only if its frames encode valid records.
 pub mod Faultless
 pub mod FaultlessHeads
 pub mod FaultlessItems
 pub mod FaultlessRecords
 pub mod FaultlessWords
-pub mod SpelledFaultless
+pub mod EncodedFaultless
 pub mod ItemReads

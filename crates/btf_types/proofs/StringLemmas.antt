@@ -10,4 +10,4 @@ pub mod Suffixes
 pub mod TableLaws
 pub mod TailOrder
 pub mod Texts
-pub mod SpelledNames
+pub mod EncodedNames

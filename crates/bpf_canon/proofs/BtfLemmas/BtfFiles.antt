@@ -4,7 +4,7 @@ use Rattle.std.specs.Result.{IfOk, IfErr, MatchResult}
 use Rattle.bpf_words.specs.{declared.Order.Order, declared.Order.TheVariants.Little, Words.IsBytes}
 use Rattle.btf_types.specs.declared.error.BtfError.{BtfError}
 use Rattle.btf_types.specs.declared.error.BtfError.TheVariants as error
-use Rattle.btf_types.specs.{Values.TypeRecord, tables.Tables.Fails, Good.IsGood, Denotes.Denotes}
+use Rattle.btf_types.specs.{Values.TypeRecord, tables.Tables.Fails, Valid.IsValid, Denotes.Denotes}
 use Rattle.btf_types.proofs.{Denoting.denotes_unique, CheckLemmas.FaultLaws.no_fault_is_accepted}
 use Rattle.bpf_canon.specs.btf.{CanonicalBtf.canonical, BtfLaws.IsCanonicalBtf}
 use Rattle.bpf_canon.proofs.BtfLemmas.CanonicalFiles.{canonical_denotes}
@@ -13,13 +13,13 @@ use Rattle.bpf_canon.proofs.BtfLemmas.CanonicalFiles.{canonical_denotes}
 pub ok_with : {T E : Type 0} (P Q : T → Type 0) → ((x : T) → P x → Q x) → (r : Result T E) → IfOk r P → IfOk r Q
 ok_with P Q f r h = grind arith
 
-pub canonical_is_file : (o : Order) (v : List TypeRecord) (bytes : List ℕ) → IsGood v → bytes ≡ canonical o v → Denotes bytes v
-canonical_is_file o v bytes good e = subst (λ (b : List ℕ). Denotes b v) (sym e) (canonical_denotes o v good)
+pub canonical_is_file : (o : Order) (v : List TypeRecord) (bytes : List ℕ) → IsValid v → bytes ≡ canonical o v → Denotes bytes v
+canonical_is_file o v bytes valid e = subst (λ (b : List ℕ). Denotes b v) (sym e) (canonical_denotes o v valid)
 
 -- the canonical bytes of the records of a file
 pub canonical_of : (b canon : List ℕ) (v : List TypeRecord) → Denotes b v → canon ≡ canonical Little v → IsCanonicalBtf b canon
 canonical_of b canon v d e =
-    let accepted : Denotes canon v = subst (λ (c : List ℕ). Denotes c v) (sym e) (canonical_denotes Little v d.good) in
+    let accepted : Denotes canon v = subst (λ (c : List ℕ). Denotes c v) (sym e) (canonical_denotes Little v d.valid) in
     record {
       records = v;
       file = d;

@@ -15,6 +15,6 @@ compares a b x y same (v, p) (w, q) r =
       second = w;
       first_file = p.0;
       second_file = q.0;
-      records = (λ t. canonical_apart Little v w p.0.good q.0.good (forms.0 t), λ e. forms.1 (ap (canonical Little) e));
+      records = (λ t. canonical_apart Little v w p.0.valid q.0.valid (forms.0 t), λ e. forms.1 (ap (canonical Little) e));
       forms = forms;
     }

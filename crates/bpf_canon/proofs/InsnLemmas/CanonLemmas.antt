@@ -4,7 +4,7 @@ use Rattle.std.specs.Result.{IfOk}
 use Rattle.bpf_words.specs.declared.Order.{Order, TheVariants.Little}
 use Rattle.bpf_insn.specs.declared.{insn.Insn.Insn, decode.InsnError.InsnError}
 use Rattle.bpf_insn.specs.declared.decode.InsnError.TheVariants as error
-use Rattle.bpf_insn.specs.{Table.IsInsn, Spelling.InsnFile, Spelling.file_of}
+use Rattle.bpf_insn.specs.{Table.IsInsn, Encoding.InsnFile, Encoding.file_of}
 use Rattle.bpf_insn.proofs.{FileLaws.one_list, FrontLemmas.one_front}
 use Rattle.bpf_canon.specs.insn.{FeedState.FeedState, FeedStream.IsLastingFaultOf, FeedStream.Moves, FeedStream.Represents}
 use Rattle.bpf_canon.specs.insn.Canonical.{CanonicalBytesAreAccepted, CanonicalBytesAreTheirOwn, CanonicalBytesTellFilesApart, Compares, IsCanonical, NamesFault}

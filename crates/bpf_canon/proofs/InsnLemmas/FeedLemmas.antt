@@ -6,7 +6,7 @@ use Rattle.bpf_words.specs.declared.Order.{Order}
 use Rattle.bpf_insn.specs.declared.{insn.Insn.Insn, decode.InsnError.InsnError, whole_insns.InsnFront.InsnFront}
 use Rattle.bpf_insn.specs.declared.fault.{SlotFault.SlotFault, SlotCause.SlotCause, SlotCause.TheVariants.Truncated}
 use Rattle.bpf_insn.specs.declared.decode.InsnError.TheVariants as error
-use Rattle.bpf_insn.specs.{Spelling.InsnFile, Spelling.file_of, Fronts.StopsAt}
+use Rattle.bpf_insn.specs.{Encoding.InsnFile, Encoding.file_of, Fronts.StopsAt}
 use Rattle.bpf_insn.specs.Faults.{IsFront, IsInsnFault, IsSlotFault, moved_by}
 use Rattle.bpf_insn.proofs.{FileLaws.fault_within, FrontLemmas.empty_begins_none, FrontLemmas.front_fault}
 use Rattle.bpf_canon.specs.insn.FeedState.{FeedState, IsCut, missing_place}
@@ -19,7 +19,7 @@ use Rattle.bpf_canon.proofs.InsnLemmas.FrontLaws.{cut_length, front-nil, front_c
 pub cut_begins_none : (o : Order) (s : List ℕ) → IsCut o s → BeginsNone o s
 cut_begins_none o s c = elim c [
   | inl e ↦ let P : List ℕ → Type 0 = λ x. BeginsNone o x in subst P (sym e) (empty_begins_none o)
-  | inr f ↦ f.unspelled
+  | inr f ↦ f.unencoded
 ]
 
 -- a fault of missing bytes has their offset

@@ -7,7 +7,7 @@ use Rattle.bpf_words.proofs.SlotLemmas.{slot_length}
 use Rattle.bpf_insn.specs.declared.{insn.Insn.Insn, fault.SlotFault.SlotFault, fault.SlotCause.SlotCause}
 use Rattle.bpf_insn.specs.declared.fault.SlotCause.TheVariants.{Truncated}
 use Rattle.bpf_insn.specs.{Table.IsInsn, Faults.IsFront, Faults.IsSlotFault}
-use Rattle.bpf_insn.specs.Spelling.{InsnFile, file_of, spelling}
+use Rattle.bpf_insn.specs.Encoding.{InsnFile, file_of, encoding}
 use Rattle.bpf_insn.proofs.UniqueLemmas.{one_fault}
 use Rattle.bpf_insn.proofs.FileLaws.{begins_once, rests_same}
 use Rattle.bpf_insn.proofs.FrontLemmas.{empty_begins_none, front_of, length-at_most_file, one_front}
@@ -15,15 +15,15 @@ use Rattle.bpf_canon.specs.insn.{FrontReads.BeginsNone, FeedStream.IsSound}
 
 -- ---- lengths
 
--- a spelling is as long in one order as in the other
-pub length-spelling_same : (o p : Order) (i : Insn) → length (spelling o i) ≡ length (spelling p i)
-unfolding spelling
-length-spelling_same o p i = grind (arith, slot_length)
+-- an encoding is as long in one order as in the other
+pub length-encoding_same : (o p : Order) (i : Insn) → length (encoding o i) ≡ length (encoding p i)
+unfolding encoding
+length-encoding_same o p i = grind (arith, slot_length)
 
 -- and so are the bytes of some instructions
 pub length-file_same : (o p : Order) (l : List Insn) → length (file_of o l) ≡ length (file_of p l)
 length-file_same o p [] = refl
-length-file_same o p (i ∷ l) = grind (arith, length-append, length-spelling_same, (length-file_same o p l))
+length-file_same o p (i ∷ l) = grind (arith, length-append, length-encoding_same, (length-file_same o p l))
 
 -- what is read is no more than what there is, in either order
 pub front_fits : (o to : Order) (b : List ℕ) (l : List Insn) (rest : List ℕ) → IsFront o b l rest
@@ -36,8 +36,8 @@ front_counts o b l rest f = omega (arith, length-at_most_file o l, front_fits o 
 -- ---- the rest after the complete instructions doesn't begin with an instruction
 
 -- the bytes of one instruction more
-pub file-push : (o : Order) (l : List Insn) (i : Insn) → file_of o (l ++ i ∷ []) ≡ file_of o l ++ spelling o i
-file-push o l i = flat_map-append (spelling o) l (i ∷ []) ∙ ap (λ s. file_of o l ++ s) (append-nil (spelling o i))
+pub file-push : (o : Order) (l : List Insn) (i : Insn) → file_of o (l ++ i ∷ []) ≡ file_of o l ++ encoding o i
+file-push o l i = flat_map-append (encoding o) l (i ∷ []) ∙ ap (λ s. file_of o l ++ s) (append-nil (encoding o i))
 
 pub front_begins_none : (o : Order) (b : List ℕ) (l : List Insn) (rest : List ℕ) → IsFront o b l rest → BeginsNone o rest
 front_begins_none o b l rest f i g =
@@ -65,8 +65,8 @@ grows : (o : Order) (l m : List Insn) (r s : List ℕ) → All IsInsn l → All 
 grows o [] m r s hl hm e none = (m, refl)
 grows o (i ∷ l) [] r s hl hm e none = grind (arith, All-head, append_assoc)
 grows o (i ∷ l) (j ∷ m) r s hl hm e none =
-    let whole : spelling o i ++ (file_of o l ++ r) ≡ spelling o j ++ (file_of o m ++ s) = grind (arith, append_assoc) in
-    let same = begins_once o i j (spelling o i ++ (file_of o l ++ r)) (All-head IsInsn i l hl, (file_of o l ++ r, refl)) (All-head IsInsn j m hm, (file_of o m ++ s, whole)) in
+    let whole : encoding o i ++ (file_of o l ++ r) ≡ encoding o j ++ (file_of o m ++ s) = grind (arith, append_assoc) in
+    let same = begins_once o i j (encoding o i ++ (file_of o l ++ r)) (All-head IsInsn i l hl, (file_of o l ++ r, refl)) (All-head IsInsn j m hm, (file_of o m ++ s, whole)) in
     let tails = rests_same o i j (file_of o l ++ r) (file_of o m ++ s) same whole in
     let more = grows o l m r s (All-tail IsInsn i l hl) (All-tail IsInsn j m hm) tails none in
     (more.0, ap (λ k. k ∷ m) (sym same) ∙ ap (λ t. i ∷ t) more.1)

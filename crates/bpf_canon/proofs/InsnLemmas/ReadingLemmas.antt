@@ -7,7 +7,7 @@ use Rattle.std.proofs.lemmas.List.Concat.{flat_map-append}
 use Rattle.std.proofs.Math.Seq.{drop-append-add, take-append_seam}
 use Rattle.bpf_words.specs.declared.Order.{Order}
 use Rattle.bpf_insn.specs.declared.{insn.Insn.Insn, whole_insns.InsnFront.InsnFront, fault.SlotCause.SlotCause, fault.SlotFault.SlotFault}
-use Rattle.bpf_insn.specs.{Table.IsInsn, Fronts.IsInsnFront, Fronts.StopsAt, Spelling.file_of, Spelling.spelling, Spelling.InsnFile}
+use Rattle.bpf_insn.specs.{Table.IsInsn, Fronts.IsInsnFront, Fronts.StopsAt, Encoding.file_of, Encoding.encoding, Encoding.InsnFile}
 use Rattle.bpf_insn.specs.Faults.{BeginsWith, IsFront, IsSlotFault}
 use Rattle.bpf_insn.proofs.{FrontLemmas.front_of, StayLemmas.slot_fault_stays}
 use Rattle.bpf_canon.specs.insn.FrontReads.{BeginsNone, ReadsFront}
@@ -21,12 +21,12 @@ cut_across held piece used = append_assoc held (take used piece) (drop used piec
 
 -- what is held begins with no instruction, so one that begins across is longer
 across_longer : (o : Order) (i : Insn) (held more : List ℕ) → BeginsNone o held → BeginsWith o i (held ++ more)
-    → length held ≤ length (spelling o i)
-across_longer o i held more none b = elim (cases_lt (length (spelling o i)) (length held)) [
+    → length held ≤ length (encoding o i)
+across_longer o i held more none b = elim (cases_lt (length (encoding o i)) (length held)) [
   | inl less ↦
-      let n = length (spelling o i) in
-      let front : take n held ≡ spelling o i =
-      sym (take-append-le n held more (omega arith)) ∙ ap (take n) b.1.1 ∙ take-append_seam (spelling o i) b.1.0 in
+      let n = length (encoding o i) in
+      let front : take n held ≡ encoding o i =
+      sym (take-append-le n held more (omega arith)) ∙ ap (take n) b.1.1 ∙ take-append_seam (encoding o i) b.1.0 in
       absurd (none i (b.0, (drop n held, sym (take-append-drop n held) ∙ ap (λ (x : List ℕ). x ++ drop n held) front)))
   | inr more ↦ more
 ]
@@ -36,8 +36,8 @@ first_longer : (o : Order) (l : List Insn) (held more rest : List ℕ) → Begin
     → length held ≤ length (file_of o l)
 first_longer o [] held more rest none each whole some = absurd (omega (arith, some))
 first_longer o (i ∷ l) held more rest none each whole some =
-    let begins = whole ∙ append_assoc (spelling o i) (file_of o l) rest in
-    omega (arith, across_longer o i held more none (All-head IsInsn i l each, (file_of o l ++ rest, begins)), length-append (spelling o i) (file_of o l))
+    let begins = whole ∙ append_assoc (encoding o i) (file_of o l) rest in
+    omega (arith, across_longer o i held more none (All-head IsInsn i l each, (file_of o l ++ rest, begins)), length-append (encoding o i) (file_of o l))
 
 -- so if any instruction is read, all that is held is
 pub across_begun : (o to : Order) (held more : List ℕ) (first : InsnFront) (old new : List ℕ) → BeginsNone o held → ReadsFront o to (held ++ more) first old new
@@ -64,7 +64,7 @@ none_stops : (o : Order) (held piece : List ℕ) (used : ℕ) (stop : Option Slo
 none_stops o held piece used None fits some short e = absurd (omega (arith, some, ap length e, length-append held (take used piece)))
 none_stops o held piece used (Some f) fits some short e =
     let whole = across_fault o held piece used f.pos f.cause fits short e in
-    (whole.unspelled, whole)
+    (whole.unencoded, whole)
 
 no_insns : (l : List Insn) → length l ≡ 0 → l ≡ []
 no_insns [] e = refl
@@ -116,7 +116,7 @@ across_more o to held piece used first rest old middle new fits begun f r =
       counted = omega (arith, f.counted, r.counted, length-append f.insns r.insns);
       within = omega (arith, r.within, within, size, fits, length-drop n piece, length-append held piece);
       grows = r.grows ∙ ap (λ x. x ++ file_of to r.insns) f.grows ∙ append_assoc old (file_of to f.insns) (file_of to r.insns)
-          ∙ ap (λ x. old ++ x) (sym (flat_map-append (spelling to) f.insns r.insns));
+          ∙ ap (λ x. old ++ x) (sym (flat_map-append (encoding to) f.insns r.insns));
     }
 
 -- the complete instructions, appended in another order

@@ -5,10 +5,10 @@ use Rattle.std.proofs.lemmas.List.{take_all, Elements.All-head, Elements.All-nil
 use Rattle.std.proofs.Math.Seq.{drop-append_seam, drop-length, take-append_seam}
 use borrow.Rule.Slice.PartMut.{Post-is, mid_of, post_of, put_mid}
 use Rattle.bpf_words.specs.declared.Order.{Order}
-use Rattle.bpf_words.specs.Slots.{Fields, AreFields, AreSlots, fields, spelled}
+use Rattle.bpf_words.specs.Slots.{Fields, AreFields, AreSlots, fields, encoded}
 use Rattle.bpf_insn.specs.declared.insn.Insn.{Insn}
 use Rattle.bpf_insn.specs.Table.{IsInsn, fields_of, next_imm_of}
-use Rattle.bpf_insn.specs.Spelling.{spelling, second_slot, file_of, InsnFile}
+use Rattle.bpf_insn.specs.Encoding.{encoding, second_slot, file_of, InsnFile}
 use Rattle.bpf_insn.proofs.FieldLemmas.{fields_in_range}
 
 -- a second slot is one whose fields are 0, except the immediate
@@ -19,19 +19,19 @@ second_fields (Some k) = fields 0 0 0 (pos 0) k ∷ []
 abbrev pub slots_of_insn : Insn → List Fields
 slots_of_insn i = fields_of i ∷ second_fields (next_imm_of i)
 
-second_spelled : (order : Order) (k : Option ℤ) → second_slot order k ≡ flat_map (spelled order) (second_fields k)
-second_spelled order k = grind arith
+second_encoded : (order : Order) (k : Option ℤ) → second_slot order k ≡ flat_map (encoded order) (second_fields k)
+second_encoded order k = grind arith
 
-insn_spelled : (order : Order) (i : Insn) → spelling order i ≡ flat_map (spelled order) (slots_of_insn i)
-unfolding spelling
-insn_spelled order i = ap (λ xs. spelled order (fields_of i) ++ xs) (second_spelled order (next_imm_of i))
+insn_encoded : (order : Order) (i : Insn) → encoding order i ≡ flat_map (encoded order) (slots_of_insn i)
+unfolding encoding
+insn_encoded order i = ap (λ xs. encoded order (fields_of i) ++ xs) (second_encoded order (next_imm_of i))
 
 abbrev pub slots_of_file : List Insn → List Fields
 slots_of_file insns = flat_map slots_of_insn insns
 
-pub file_spelled : (order : Order) (insns : List Insn) → file_of order insns ≡ flat_map (spelled order) (slots_of_file insns)
-file_spelled order [] = refl
-file_spelled order (i ∷ insns) = grind (arith, insn_spelled, (file_spelled order insns))
+pub file_encoded : (order : Order) (insns : List Insn) → file_of order insns ≡ flat_map (encoded order) (slots_of_file insns)
+file_encoded order [] = refl
+file_encoded order (i ∷ insns) = grind (arith, insn_encoded, (file_encoded order insns))
 
 -- every field of a slot of an instruction is in its range
 second_in_range : (i : Insn) → IsInsn i → All AreFields (second_fields (next_imm_of i))
@@ -47,11 +47,11 @@ file_in_range (i ∷ insns) h = search (rules, All-append, insn_in_range, All-he
 -- a file in an order has these slots in that order
 pub file_slots : (order : Order) (bytes : List ℕ) (insns : List Insn) → InsnFile order bytes insns → AreSlots order bytes (slots_of_file insns) []
 file_slots order bytes insns file =
-    (file_in_range insns file.0, omega arith, file.1 ∙ file_spelled order insns ∙ sym (append-nil (flat_map (spelled order) (slots_of_file insns))))
+    (file_in_range insns file.0, omega arith, file.1 ∙ file_encoded order insns ∙ sym (append-nil (flat_map (encoded order) (slots_of_file insns))))
 
 -- bytes that have the slots of some instructions are their file
 pub slots_file : (order : Order) (bytes : List ℕ) (insns : List Insn) → AreSlots order bytes (slots_of_file insns) [] → bytes ≡ file_of order insns
-slots_file order bytes insns h = h.2 ∙ append-nil (flat_map (spelled order) (slots_of_file insns)) ∙ sym (file_spelled order insns)
+slots_file order bytes insns h = h.2 ∙ append-nil (flat_map (encoded order) (slots_of_file insns)) ∙ sym (file_encoded order insns)
 
 -- the bytes that follow some others
 pub appended_part : (old bytes all : List ℕ) (start : ℕ) → all ≡ old ++ bytes → start ≡ length old → mid_of start (length all - start) all ≡ bytes

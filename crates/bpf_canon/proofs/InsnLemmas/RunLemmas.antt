@@ -7,7 +7,7 @@ use Rattle.std.proofs.KnownBytes.{Appends-trans, Consumes-trans, Consumes-kept}
 use Rattle.std.specs.Io.KnownBytes.{Appends, Consumes, IsAtEnd, Keeps as KeepsBytes}
 use Rattle.bpf_words.specs.declared.Order.{Order}
 use Rattle.bpf_insn.specs.declared.{insn.Insn.Insn, fault.SlotFault.SlotFault}
-use Rattle.bpf_insn.specs.{Spelling.InsnFile, Spelling.file_of, Faults.IsFront, Faults.IsInsnFault}
+use Rattle.bpf_insn.specs.{Encoding.InsnFile, Encoding.file_of, Faults.IsFront, Faults.IsInsnFault}
 use Rattle.bpf_insn.proofs.FrontLemmas.{one_front}
 use Rattle.bpf_canon.specs.declared.engine.RunCause.{RunCause}
 use Rattle.bpf_canon.specs.declared.engine.RunCause.TheVariants as cause

@@ -3,7 +3,7 @@ use Rattle.std.specs.Prelude.{◌≡◌, ◌≤◌, ℕ, List, length}
 use Rattle.std.specs.List.{All}
 use Rattle.bpf_words.specs.declared.Order.{Order, TheVariants.Little}
 use Rattle.btf_raw.specs.Header.{HasNulEnds}
-use Rattle.btf_types.specs.{Values.TypeRecord, Good.IsGood, Denotes.Denotes}
+use Rattle.btf_types.specs.{Values.TypeRecord, Valid.IsValid, Denotes.Denotes}
 use Rattle.btf_types.specs.strings.{SharedNames.hosts, SharedNames.shared_table, TableLaws.HasName}
 use Rattle.bpf_canon.specs.btf.CanonicalBtf.{canonical}
 
@@ -18,11 +18,11 @@ pub record IsCanonicalBtf (bytes canon : List ℕ) : Type 0 where
 
 -- canonical bytes are accepted, and denote the records that they encode
 abbrev pub CanonicalBtfIsAccepted : Type 0
-CanonicalBtfIsAccepted = (o : Order) (v : List TypeRecord) → IsGood v → Denotes (canonical o v) v
+CanonicalBtfIsAccepted = (o : Order) (v : List TypeRecord) → IsValid v → Denotes (canonical o v) v
 
 -- records with the same canonical bytes are equal
 abbrev pub CanonicalBtfTellsApart : Type 0
-CanonicalBtfTellsApart = (o : Order) (v w : List TypeRecord) → IsGood v → IsGood w → canonical o v ≡ canonical o w → v ≡ w
+CanonicalBtfTellsApart = (o : Order) (v w : List TypeRecord) → IsValid v → IsValid w → canonical o v ≡ canonical o w → v ≡ w
 
 -- no file that denotes the records is shorter
 abbrev pub CanonicalBtfIsShortest : Type 0

@@ -5,8 +5,8 @@ use Rattle.std.specs.List.{flat_map}
 use Rattle.bpf_words.specs.declared.Order.{Order}
 use Rattle.btf_raw.specs.{Header.header, Heads.bit, Frames.section_of}
 use Rattle.btf_types.specs.Values.{TypeHead, KStruct, KUnion, KEnum, KFwd, KDeclTag, KTypeTag, KEnum64, TypeItem, Member, EnumValue, Value64, Param, Entry, TypeRecord}
-use Rattle.btf_types.specs.{Names.head_name, Good.has_bit_fields, strings.StringTable.string_table, strings.StringTable.place_of}
-use Rattle.btf_types.specs.Spelling.{kind_number, head_third, record_vlen, head_tail, info}
+use Rattle.btf_types.specs.{Names.head_name, Valid.has_bit_fields, strings.StringTable.string_table, strings.StringTable.place_of}
+use Rattle.btf_types.specs.Encoding.{kind_number, head_third, record_vlen, head_tail, info}
 
 -- kind_flag: for a STRUCT or UNION, 0 if and only if all widths are 0; for a kind whose value includes it, that bit; 0 otherwise
 abbrev pub canonical_flag : TypeHead → Bool → ℕ

@@ -3,7 +3,7 @@ use Rattle.std.specs.Prelude.{◌≡◌, ◌↔◌, ℕ, Bool, List, IsTrue, All
 use Rattle.bpf_words.specs.declared.Order.{Order, TheVariants.Little}
 use Rattle.bpf_insn.specs.declared.{insn.Insn.Insn, fault.SlotFault.SlotFault, decode.InsnError.InsnError}
 use Rattle.bpf_insn.specs.declared.decode.InsnError.TheVariants as error
-use Rattle.bpf_insn.specs.{Table.IsInsn, Faults.IsInsnFault, Spelling.InsnFile, Spelling.file_of}
+use Rattle.bpf_insn.specs.{Table.IsInsn, Faults.IsInsnFault, Encoding.InsnFile, Encoding.file_of}
 use Rattle.bpf_canon.specs.declared.engine.SideError.{SideError}
 use Rattle.bpf_canon.specs.declared.engine.SideError.TheVariants as side
 

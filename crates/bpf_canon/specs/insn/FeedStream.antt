@@ -3,7 +3,7 @@ use Rattle.std.specs.Prelude.{◌≡◌, ◌++◌, ◌+◌, ◌-◌, ℕ, List, 
 use Rattle.bpf_words.specs.declared.Order.{Order}
 use Rattle.bpf_insn.specs.declared.{insn.Insn.Insn, decode.InsnError.InsnError, fault.SlotFault.SlotFault, fault.SlotCause.TheVariants.Truncated}
 use Rattle.bpf_insn.specs.declared.decode.InsnError.TheVariants as error
-use Rattle.bpf_insn.specs.{Spelling.file_of, Spelling.InsnFile, Faults.IsFront, Faults.IsInsnFault}
+use Rattle.bpf_insn.specs.{Encoding.file_of, Encoding.InsnFile, Faults.IsFront, Faults.IsInsnFault}
 use Rattle.bpf_canon.specs.insn.FeedState.{FeedState, missing_place}
 
 -- the bytes have this fault, and no further bytes can change it

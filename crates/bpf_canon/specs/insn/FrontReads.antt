@@ -1,9 +1,8 @@
--- Only private contracts cite this file.
 -- The result of reading the complete instructions at the start of a buffer.
 use Rattle.std.specs.Prelude.{◌≡◌, ◌≤◌, ◌+◌, ◌-◌, ◌++◌, ℕ, List, [], Option, Some, None, length, drop}
 use Rattle.bpf_words.specs.declared.Order.{Order}
 use Rattle.bpf_insn.specs.declared.{insn.Insn.Insn, whole_insns.InsnFront.InsnFront, fault.SlotFault.SlotFault, fault.SlotCause.TheVariants.Truncated}
-use Rattle.bpf_insn.specs.{Fronts.StopsAt, Spelling.file_of, Faults.BeginsWith, Faults.IsFront, Faults.IsSlotFault, Faults.moved_by}
+use Rattle.bpf_insn.specs.{Fronts.StopsAt, Encoding.file_of, Faults.BeginsWith, Faults.IsFront, Faults.IsSlotFault, Faults.moved_by}
 use Rattle.bpf_canon.specs.insn.FeedState.{FeedState, IsCut}
 
 -- the bytes don't begin with an instruction

@@ -1,4 +1,3 @@
--- Only private contracts cite this file.
 -- What one piece of the input does.
 use Rattle.std.specs.Prelude.{◌≡◌, ◌≤◌, ℕ, List, [], Option, Some, None, length, take}
 use Rattle.std.specs.Io.KnownBytes.{Appends}

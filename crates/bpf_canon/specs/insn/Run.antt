@@ -3,7 +3,7 @@ use Rattle.std.specs.Prelude.{◌≡◌, ◌<◌, ◌≤◌, ◌+◌, ℕ, List,
 use Rattle.std.specs.Io.KnownBytes.{Appends, Consumes, IsAtEnd}
 use Rattle.bpf_words.specs.declared.Order.{Order}
 use Rattle.bpf_insn.specs.declared.{insn.Insn.Insn, fault.SlotFault.SlotFault, fault.SlotCause.TheVariants.Truncated}
-use Rattle.bpf_insn.specs.{Spelling.file_of, Spelling.InsnFile, Faults.IsFront, Faults.IsInsnFault}
+use Rattle.bpf_insn.specs.{Encoding.file_of, Encoding.InsnFile, Faults.IsFront, Faults.IsInsnFault}
 use Rattle.bpf_canon.specs.{Engine.Devices, device.Reads.read_room, insn.FeedStream.IsSound, declared.engine.RunCause.RunCause}
 use Rattle.bpf_canon.specs.declared.engine.RunCause.TheVariants as cause
 
@@ -11,7 +11,7 @@ use Rattle.bpf_canon.specs.declared.engine.RunCause.TheVariants as cause
 abbrev pub limit : ℕ
 limit = 67108864
 
--- the source ended, what it returned is the spellings of some instructions, and the sink received these in the byte order `to`
+-- the source ended, what it returned is the encodings of some instructions, and the sink received these in the byte order `to`
 pub record RanWhole (d : Devices) (o to : Order) (written : ℕ) : Type 0 where
   pub read : List ℕ
   pub came : Consumes d.source d.source_after read

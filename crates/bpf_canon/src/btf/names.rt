@@ -14,7 +14,7 @@
 ghost use Rattle.std.specs.Prelude.{◌≡◌, ◌<◌, ◌≤◌, ◌^◌, ◌++◌, IfOk, OnOk, length};
 ghost use Rattle.btf_types.specs.Names.{kept, names, record_names, table_of};
 ghost use Rattle.btf_types.specs.strings.SharedNames.{hosts_of, shared_among};
-ghost use Rattle.btf_types.specs.{Good.IsGood, tables.TableWords.record_at};
+ghost use Rattle.btf_types.specs.{Valid.IsValid, tables.TableWords.record_at};
 ghost use Rattle.bpf_canon.specs.btf.names.Interned as spec;
 
 use crate::btf::suffixes::compare_from_end;
@@ -68,7 +68,7 @@ pub(crate) fn kept_names<'t, T: TypeTable, A: Allocator + Copy>(
 ) -> Result<NameSet<'t, A>, AllocError>
     ensures names { IfOk result (λ found.
         spec.borrowed_texts found.keys ≡ kept (names (T.meaning table.now))) }
-    ensures good { IfOk result (λ _. IsGood (T.meaning table.now)) }
+    ensures valid { IfOk result (λ _. IsValid (T.meaning table.now)) }
 {
     let mut found = IndexSet::new(alloc);
     for index in 0..table.count() {

@@ -138,10 +138,10 @@ impl<A: Allocator> ByteSink for MemSink<'_, A> {
         ensures amount { IfOk result (λ n. n ≡ min (sink_pace self.old).piece (length bytes.now)) }
         ensures pace { sink_pace self.new ≡ next_pace (sink_pace self.old) }
     {
-        let is_good = self.good_writes != Some(0);
+        let is_valid = self.good_writes != Some(0);
         self.good_writes = one_fewer(self.good_writes);
         let n = self.piece.min(bytes.len());
-        if is_good && self.out.extend_from_slice(&bytes[..n]).is_ok() {
+        if is_valid && self.out.extend_from_slice(&bytes[..n]).is_ok() {
             return Ok(n);
         }
         self.failed_writes += 1;

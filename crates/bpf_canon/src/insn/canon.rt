@@ -2,7 +2,7 @@
 
 ghost use Rattle.std.specs.Prelude.{◌≡◌, List, IfOk, IfErr, MatchResult, ◌≢◌, ◌↔◌, Err, IsTrue};
 ghost use Rattle.bpf_words.specs.declared.Order.{Order, TheVariants.Little};
-ghost use Rattle.bpf_insn.specs.{declared.insn.Insn.Insn, Spelling.InsnFile, Spelling.file_of};
+ghost use Rattle.bpf_insn.specs.{declared.insn.Insn.Insn, Encoding.InsnFile, Encoding.file_of};
 ghost use Rattle.bpf_canon.specs.insn.Canonical.{IsCanonical, NamesFault, Compares, NamesSide};
 
 use crate::engine::SideError;
@@ -73,8 +73,8 @@ pub fn write_insns<A: Allocator>(
 {
     let mut bytes = Vec::new(alloc);
     for insn in insns {
-        let spelled = insn_bytes(order, *insn);
-        bytes.extend_from_slice(&spelled.0[..spelled.1])?;
+        let encoded = insn_bytes(order, *insn);
+        bytes.extend_from_slice(&encoded.0[..encoded.1])?;
     }
     Ok(bytes)
 }

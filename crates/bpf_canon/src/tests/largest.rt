@@ -49,9 +49,9 @@ fn is_canonicalised(alloc: Global, big: &[u8], little: &[u8]) -> bool {
 }
 
 /// Whether the second file is refused for its last instruction.
-fn is_refused(alloc: Global, good: &[u8], faulty: &[u8]) -> bool {
+fn is_refused(alloc: Global, valid: &[u8], faulty: &[u8]) -> bool {
     let fault = canon_insns(alloc, Order::Little, faulty).err();
-    let same = same_insns(alloc, Order::Big, good, Order::Little, faulty);
+    let same = same_insns(alloc, Order::Big, valid, Order::Little, faulty);
     fault == Some(InsnError::Fault(LAST_DST)) && same == Err(SideError::Second(LAST_DST))
 }
 

@@ -230,7 +230,7 @@ const CUT: BtfFault = BtfFault {
     cause: BtfCause::FileLength,
 };
 
-/// A faulty header needs no memory, so an arena that is too small only for two good files is exhausted by the second.
+/// A faulty header needs no memory, so an arena that is too small only for two valid files is exhausted by the second.
 #[rattlefmt::skip]
 static COMPARISONS: [Comparison; 4] = [
     Comparison { second: Other::File(b""), answer: Err(SideError::Second(SHORT)), rooms: Rooms::More },

@@ -57,9 +57,9 @@ fn is_shown(alloc: Global, insn: Insn, text: &str) -> Result<bool, AllocError> {
 }
 
 /// Whether an instruction has these bytes, and only zeros after them.
-fn is_spelled(order: Order, insn: Insn, bytes: &[u8]) -> bool {
-    let (spelled, len) = insn_bytes(order, insn);
-    &spelled[..len] == bytes && spelled[len..] == [0; 16][len..]
+fn is_encoded(order: Order, insn: Insn, bytes: &[u8]) -> bool {
+    let (encoded, len) = insn_bytes(order, insn);
+    &encoded[..len] == bytes && encoded[len..] == [0; 16][len..]
 }
 
 /// Whether each call returns this instruction, of this group, for these bytes.
@@ -74,8 +74,8 @@ fn is_read(
     };
     let (insn, len) = found;
     let has_len = len == bytes.len() && insn_len(order, bytes) == Ok(len);
-    let is_spelled = is_spelled(order, insn, bytes) && group_of(insn) == group;
-    Ok(has_len && is_spelled && is_shown(alloc, insn, text)?)
+    let is_encoded = is_encoded(order, insn, bytes) && group_of(insn) == group;
+    Ok(has_len && is_encoded && is_shown(alloc, insn, text)?)
 }
 
 /// Whether both calls find this fault in these bytes.

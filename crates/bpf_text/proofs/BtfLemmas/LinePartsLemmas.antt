@@ -4,7 +4,7 @@ use Rattle.std.specs.Prelude.{Result, [], codes, decimal, if◌then◌else◌}
 use Rattle.std.specs.List.{flat_map}
 use Rattle.btf_types.specs.Values.{TypeHead, KPtr, KArray, KVolatile, KConst, KRestrict, KFuncProto, TypeItem, Member, EnumValue, Value64, Param, Entry}
 use Rattle.btf_raw.specs.Kinds.{has_no_name}
-use Rattle.btf_types.specs.{Names.head_name, Names.item_name, Spelling.kind_number}
+use Rattle.btf_types.specs.{Names.head_name, Names.item_name, Encoding.kind_number}
 use Rattle.bpf_text.specs.btf.BtfText.{fields_text, head_line, item_line, item_text, kind_word, name_text, quoted_byte}
 use Rattle.bpf_text.specs.btf.LineParts.{head_end, head_fields, head_start, item_end, item_fields, item_start}
 use Rattle.bpf_text.proofs.BtfLemmas.AppendingLemmas.{Extends, appended_after}

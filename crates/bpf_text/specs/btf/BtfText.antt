@@ -7,7 +7,7 @@ use Rattle.btf_types.specs.declared.values.Encoding.TheVariants as encoding
 use Rattle.btf_types.specs.declared.values.Linkage.{Linkage}
 use Rattle.btf_types.specs.declared.values.Linkage.TheVariants as linkage
 use Rattle.btf_raw.specs.Kinds.{has_no_name}
-use Rattle.btf_types.specs.{Names.head_name, Spelling.kind_number}
+use Rattle.btf_types.specs.{Names.head_name, Encoding.kind_number}
 use Rattle.btf_types.specs.Values.{TypeHead, KInt, KPtr, KArray, KStruct, KUnion, KEnum, KFwd, KTypedef, KVolatile, KConst, KRestrict, KFunc, KFuncProto, KVar, KDatasec, KFloat, KDeclTag, KTypeTag, KEnum64, TypeItem, Member, EnumValue, Value64, Param, Entry, TypeRecord}
 
 -- ---- names

@@ -4,7 +4,7 @@ use Rattle.std.specs.Prelude.{ℕ, Bool, List, [], ◌++◌, codes, decimal, if�
 use Rattle.std.specs.Int.{w32, w64}
 use Rattle.btf_raw.specs.Kinds.{has_no_name}
 use Rattle.btf_types.specs.Values.{TypeHead, TypeItem, Member, EnumValue, Value64, Param, Entry}
-use Rattle.btf_types.specs.Spelling.{kind_number}
+use Rattle.btf_types.specs.Encoding.{kind_number}
 use Rattle.bpf_text.specs.btf.BtfText.{fields_text, kind_word, value_text}
 
 -- ---- types

@@ -1,4 +1,3 @@
--- Only private contracts cite this file.
 -- The hash by which the reader finds a mnemonic.
 use Rattle.std.specs.Prelude.{ℕ, ◌+◌, ◌*◌, ◌/◌, ◌%◌, List, [], ◌∷◌}
 

@@ -1,4 +1,3 @@
--- Only private contracts cite this file.
 -- The bytes of each mnemonic, and the mnemonic of each instruction.
 use Rattle.std.specs.Prelude.{ℕ, List, ◌++◌, codes}
 use Rattle.bpf_insn.specs.declared.insn.Insn.{Insn}

@@ -1,4 +1,3 @@
--- Only private contracts cite this file.
 -- The values that numbers and operands of the reader represent.
 use Rattle.std.specs.Prelude.{◌≡◌, ℕ, ◌^◌, ◌≤◌, ℤ, pos, neg_ℤ, ◌≤ℤ◌, ◌⊎◌, List, Option, Some, None, FitsSigned}
 use Rattle.std.specs.Int.{w128}

@@ -1,4 +1,3 @@
--- Only private contracts cite this file.
 -- The results of reading the tokens of a line, and of reading a listing.
 use Rattle.std.specs.Prelude.{◌≡◌, ℕ, List, ◌∷◌, Result, Ok, Err}
 use Rattle.std.specs.{Borrow.MutBor, List.FoldsTo, declared.alloc.AllocError.AllocError}

@@ -1,4 +1,3 @@
--- Only private contracts cite this file.
 -- The operands that the writer's values represent.
 use Rattle.std.specs.Prelude.{pos}
 use Rattle.bpf_text.specs.declared.insn.write.WrittenOperand.{WrittenOperand as Written}

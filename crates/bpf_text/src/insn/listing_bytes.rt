@@ -1,7 +1,7 @@
 //! Reading a listing into the bytes of its instructions.
 
 ghost use Rattle.std.specs.Prelude.{◌≡◌, ◌++◌, List, Err, IfOk, MatchResult, OnOk};
-ghost use Rattle.bpf_insn.specs.{declared.insn.Insn.Insn, Spelling.spelling, Spelling.file_of};
+ghost use Rattle.bpf_insn.specs.{declared.insn.Insn.Insn, Encoding.encoding, Encoding.file_of};
 ghost use Rattle.bpf_text.specs.declared.insn.fault.{LineFault.LineFault, ListError.ListError};
 ghost use Rattle.bpf_text.specs.insn.Listing.{Lists, IsListFault};
 
@@ -12,15 +12,15 @@ use std::alloc::{AllocError, Allocator};
 
 /// Appends the bytes of an instruction, in the byte order `to`.
 fn push_insn<A: Allocator>(bytes: &mut Vec<u8, A>, to: Order, insn: Insn) -> Result<(), AllocError>
-    ensures { OnOk result (bytes.new.items ≡ bytes.old.items ++ spelling to insn) }
+    ensures { OnOk result (bytes.new.items ≡ bytes.old.items ++ encoding to insn) }
 {
     // The pair isn't destructured, since that would copy the bytes once more.
-    let spelled = insn_bytes(to, insn);
+    let encoded = insn_bytes(to, insn);
     // Most instructions have 8 bytes. A copy of constant length is one store.
-    if spelled.1 == 8 {
-        return bytes.extend_from_slice(&spelled.0[..8]);
+    if encoded.1 == 8 {
+        return bytes.extend_from_slice(&encoded.0[..8]);
     }
-    bytes.extend_from_slice(&spelled.0[..spelled.1])
+    bytes.extend_from_slice(&encoded.0[..encoded.1])
 }
 
 /// The bytes of the instructions of a listing, concatenated, in the byte order `to` (RFC 9669

@@ -5,7 +5,7 @@ use Rattle.std.proofs.lemmas.List.{append-nil, drop-drop, flat_map_more, take_al
 use Rattle.std.proofs.{Math.Seq.drop-append_seam, KnownBytes.Appends-nil}
 use Rattle.bpf_words.specs.declared.Order.{Order}
 use Rattle.bpf_insn.specs.{declared.insn.Insn.Insn, declared.fault.SlotFault.SlotFault, Faults.BeginsWith, Faults.IsInsnFault, Faults.IsSlotFault}
-use Rattle.bpf_insn.specs.{Table.IsInsn, Spelling.InsnFile, Spelling.file_of, Spelling.spelling}
+use Rattle.bpf_insn.specs.{Table.IsInsn, Encoding.InsnFile, Encoding.file_of, Encoding.encoding}
 use Rattle.bpf_insn.proofs.FileLaws.{at_least_a_slot, begins_once}
 use Rattle.bpf_text.specs.insn.Lines.{line_of, listing_of}
 use Rattle.bpfcanon.specs.declared.{job.Job.Job, verb.Verb.TheVariants.InsnShow, outcome.Outcome.TheVariants.Done, outcome.Outcome.TheVariants.Fault}
@@ -63,34 +63,34 @@ listing_split l t i = flat_map-append line l (i ∷ t) ∙ sym (append_assoc (li
 module _ (order : Order) (input : List ℕ) (at : ℕ) (a b : Option (List ℕ)) (f g : ℕ) (piece : List ℕ) (p : Listed order input at (change a b f g) piece) where
   -- one line more
   pub listed_more : (c : Option (List ℕ)) (h : ℕ) (kept : List ℕ) (i : Insn) (len : ℕ) → at < length input
-      → BeginsWith order i (take (length input - at) (drop at input)) × (len ≡ length (spelling order i))
+      → BeginsWith order i (take (length input - at) (drop at input)) × (len ≡ length (encoding order i))
       → Gathered (change b c g h) kept (piece ++ line i) → Listed order input (at + len) (change a c f h) kept
   listed_more c h kept i len more found q =
       let n = next order input at p.after p.each p.rest more in
       let same : i ≡ n.insn = begins_once order i n.insn _ found.0 n.begins in
       let is : p.after ≡ i ∷ n.others = n.is ∙ ap (λ (x : Insn). x ∷ n.others) (sym same) in
-      let rest : drop at input ≡ spelling order i ++ file_of order n.others = p.rest ∙ ap (file_of order) is in
+      let rest : drop at input ≡ encoding order i ++ file_of order n.others = p.rest ∙ ap (file_of order) is in
       let left : drop (at + len) input ≡ file_of order n.others =
-      sym (drop-drop len at input) ∙ ap (drop len) rest ∙ ap (λ (m : ℕ). drop m (spelling order i ++ file_of order n.others)) found.1
-      ∙ drop-append_seam (spelling order i) (file_of order n.others) in
+      sym (drop-drop len at input) ∙ ap (drop len) rest ∙ ap (λ (m : ℕ). drop m (encoding order i ++ file_of order n.others)) found.1
+      ∙ drop-append_seam (encoding order i) (file_of order n.others) in
       let whole : p.before ++ p.after ≡ (p.before ++ i ∷ []) ++ n.others = grind (arith, append_assoc) in
       record {
         before = p.before ++ i ∷ [];
         after = n.others;
         file = subst (InsnFile order input) whole p.file;
-        within = omega (arith, found.1, ap length rest, length-append (spelling order i) (file_of order n.others), length-drop at input, p.within);
+        within = omega (arith, found.1, ap length rest, length-append (encoding order i) (file_of order n.others), length-drop at input, p.within);
         each = All-tail IsInsn i n.others (subst (All IsInsn) is p.each);
         rest = left;
         gathered = subst (Gathered (change a c f h) kept) (listing-push p.before i) (gathered_more a b c f g h piece kept (listing_of p.before) (line i) p.gathered q);
       }
 
-  pub moved_on : (i : Insn) (len : ℕ) → at < length input → BeginsWith order i (take (length input - at) (drop at input)) × (len ≡ length (spelling order i))
+  pub moved_on : (i : Insn) (len : ℕ) → at < length input → BeginsWith order i (take (length input - at) (drop at input)) × (len ≡ length (encoding order i))
       → length input - (at + len) < length input - at
   moved_on i len more found = omega (arith, more, found.1, at_least_a_slot order i)
 
   -- the slot at the offset doesn't have a fault
   pub faultless : (fault : SlotFault) → at < length input → IsSlotFault order (take (length input - at) (drop at input)) fault → ⊥
-  faultless fault more at_fault = let n = next order input at p.after p.each p.rest more in at_fault.unspelled n.insn n.begins
+  faultless fault more at_fault = let n = next order input at p.after p.each p.rest more in at_fault.unencoded n.insn n.begins
 
   -- the piece with one line more couldn't be written
   pub listed_stopped : (c : Option (List ℕ)) (h : ℕ) (pushed kept : List ℕ) (i : Insn) (e : PutError) → at < length input → BeginsWith order i (take (length input - at) (drop at input))
@@ -119,7 +119,7 @@ module _ (order : Order) (input : List ℕ) (at : ℕ) (a b : Option (List ℕ))
     where
       none : (xs : List Insn) → length (file_of order xs) ≡ 0 → xs ≡ []
       none [] e = refl
-      none (x ∷ xs) e = absurd (omega (arith, e, length-append (spelling order x) (file_of order xs), at_least_a_slot order x))
+      none (x ∷ xs) e = absurd (omega (arith, e, length-append (encoding order x) (file_of order xs), at_least_a_slot order x))
 
   -- the sink received the last piece, or a part of it
   pub listed_put : (c : Option (List ℕ)) (h : ℕ) (r : Result (Unit {0}) PutError) → length input ≤ at → TookText (change b c g h) piece r

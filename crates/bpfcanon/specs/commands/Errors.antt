@@ -1,4 +1,3 @@
--- Only private contracts cite this file.
 -- The outcome of a command that ends with an error of a library.
 use Rattle.bpf_insn.specs.declared.fault.SlotFault.{SlotFault}
 use Rattle.bpf_text.specs.declared.insn.fault.ListError.{ListError}

@@ -1,4 +1,3 @@
--- Only private contracts cite this file.
 -- The reply to a complete input, with output that is written at once or in pieces.
 use Rattle.std.specs.Prelude.{◌≡◌, ◌<◌, ◌≤◌, ◌++◌, ◌⊎◌, ℕ, Bool, List, [], Result, Ok, Err, MatchResult, true, length, take}
 use Rattle.std.specs.declared.vec.Vec.{Vec}

@@ -3,7 +3,7 @@ use Rattle.std.specs.Prelude.{◌≡◌, ◌<◌, ◌≤◌, ◌++◌, ◌*◌, 
 use Rattle.std.specs.List.{flat_map}
 use Rattle.bpf_words.specs.declared.Order.{Order}
 use Rattle.bpf_insn.specs.declared.{insn.Insn.Insn, group.Group.Group, fault.SlotFault.SlotFault, fault.SlotCause.TheVariants.Truncated}
-use Rattle.bpf_insn.specs.{Spelling.InsnFile, Spelling.file_of, Faults.IsFront, Faults.IsInsnFault}
+use Rattle.bpf_insn.specs.{Encoding.InsnFile, Encoding.file_of, Faults.IsFront, Faults.IsInsnFault}
 use Rattle.bpf_insn.specs.Groups.{InGroups, all_groups, group_name}
 use Rattle.bpf_canon.specs.insn.Run as engine
 use Rattle.bpf_canon.specs.btf.RunBtf.{btf_limit}

@@ -18,7 +18,7 @@ abbrev pub order_at : Verb → Setting → List Row → Order
 order_at verb s rows =
     if takes_setting verb s then option_map_or order_named (first_of (setting_name s) rows) Little else Little
 
--- the u64 that a string spells in decimal, or 0 if it spells none
+-- the u64 that a string encodes in decimal, or 0 if it encodes none
 abbrev pub number_named : Text → ℕ
 number_named text = if is_unsigned_in 0 (2 ^ 64 - 1) text then digits_value 10 (without_leading_plus text) else 0
 

@@ -4,7 +4,7 @@
 //! input, and the check of the input makes no values (`whole_insns.rt` of `bpf_insn`).
 
 ghost use Rattle.std.specs.Prelude.{◌≡◌, ◌<◌, ◌≤◌, List, length};
-ghost use Rattle.bpf_insn.specs.{declared.insn.Insn.Insn, Spelling.InsnFile};
+ghost use Rattle.bpf_insn.specs.{declared.insn.Insn.Insn, Encoding.InsnFile};
 ghost use Rattle.bpf_text.specs.insn.Lines.{listing_of};
 ghost use Rattle.bpfcanon.specs.{declared.verb.Verb.TheVariants.InsnShow, Devices.sink_change};
 ghost use Rattle.bpfcanon.specs.commands.{Pieces.Answers, Pieces.TookText, Reply.limit_of};

@@ -8,14 +8,14 @@ use Rattle.btf_raw.specs.declared.cause.BtfCause.{BtfCause, TheVariants.FirstStr
 use Rattle.btf_raw.specs.{Cause.HasNone, Frames.Frames, Frames.section_of}
 use Rattle.btf_raw.specs.Header.{Cut, HasNulEnds, HeaderFault, StringFault, part, types_at, strings_at, TYPES_LIMIT}
 use Rattle.btf_raw.proofs.{Cuts.cut_unique, Cuts.cut_reads, HeaderLaw.header_there, HeaderLaw.cut_has_none}
-use Rattle.btf_types.specs.{Values.TypeRecord, Reading.record_of, Spelling.Spells, Denotes.Denotes}
-use Rattle.btf_types.specs.{Good.IsGood, Good.facts, checks.FieldFaults.FieldFault}
+use Rattle.btf_types.specs.{Values.TypeRecord, Reading.record_of, Encoding.Encodes, Denotes.Denotes}
+use Rattle.btf_types.specs.{Valid.IsValid, Valid.facts, checks.FieldFaults.FieldFault}
 use Rattle.btf_types.specs.Faults.{Phase, InHeader, InStrings, InFrames, InFields, Faults, StringsFault, FramesFault, FieldsFault}
 use Rattle.btf_types.specs.Laws.{CutIsChecked, FramingIsChecked, FieldsAreChecked, NoFaultIsAccepted}
 use Rattle.btf_types.proofs.{Denoting.frames_of, TableLemmas.TableSteps.frames_denote}
 use Rattle.btf_types.proofs.CheckLemmas.PhaseSteps.{strings_have_none, framing_has_none, same_frames}
 use Rattle.btf_types.proofs.CheckLemmas.{FramesLaw.frames_there, FieldsLaw.fields_have_none}
-use Rattle.btf_types.proofs.FaultlessLemmas.Faultless.{frames_spell, frames_good}
+use Rattle.btf_types.proofs.FaultlessLemmas.Faultless.{frames_encode, frames_valid}
 
 -- ---- the header and the strings
 
@@ -92,20 +92,20 @@ module _ (b : List ℕ) (o : Order) (types strings : List ℕ) (cut : Cut b o ty
       place_is = refl;
     })
 
-    fields_there : HasNone (FieldsFault b) → (v : List TypeRecord) × AllZip (Spells strings) v frames × IsGood v
+    fields_there : HasNone (FieldsFault b) → (v : List TypeRecord) × AllZip (Encodes strings) v frames × IsValid v
     fields_there none =
         let no_field = fields_none none in
         let few : length (section_of o frames) ≤ TYPES_LIMIT = subst (λ (t : List ℕ). length t ≤ TYPES_LIMIT) framed.whole cut.types_fit in (
           map (record_of strings) frames,
-          frames_spell strings frames ends framed.each no_field,
-          frames_good strings frames ends framed.each no_field o cut.strings_fit few,
+          frames_encode strings frames ends framed.each no_field,
+          frames_valid strings frames ends framed.each no_field o cut.strings_fit few,
         )
 
-    fields_back : (v : List TypeRecord) → AllZip (Spells strings) v frames → IsGood v → HasNone (FieldsFault b)
-    fields_back v spelled good p c fault =
+    fields_back : (v : List TypeRecord) → AllZip (Encodes strings) v frames → IsValid v → HasNone (FieldsFault b)
+    fields_back v encoded valid p c fault =
         let same = cut_unique b fault.order o fault.types fault.strings types strings fault.cut cut in
         let frames_are = same_frames o types fault.frames frames (rw (same.order, same.types) at fault.framed) framed in
-        fields_have_none strings v frames spelled good fault.offset c (rw (same.strings, frames_are) at fault.fault)
+        fields_have_none strings v frames encoded valid fault.offset c (rw (same.strings, frames_are) at fault.fault)
 
 pub framing_is_checked : FramingIsChecked
 framing_is_checked b o types strings fits cut ends = record {
@@ -132,11 +132,11 @@ denoted b fits none =
 
 faultless : (b : List ℕ) (v : List TypeRecord) → Denotes b v → (phase : Phase) (place : ℕ) (cause : BtfCause) → ¬ Faults b phase place cause
 faultless b v d =
-    let found = frames_of d.order d.strings (facts v) v d.spellings d.good.each d.spelled in
+    let found = frames_of d.order d.strings (facts v) v d.encodings d.valid.each d.encoded in
     let framed : Frames d.order d.types found.frames = record { each = found.each; whole = d.whole ∙ found.bytes } in
     by_phase (cut_has_none b d.order d.types d.strings d.cut) (strings_have_none b d.order d.types d.strings d.cut d.nul_ends)
     (framing_has_none b d.order d.types d.strings found.frames d.cut framed)
-    (fields_back b d.order d.types d.strings d.cut d.nul_ends found.frames framed v found.spelled d.good)
+    (fields_back b d.order d.types d.strings d.cut d.nul_ends found.frames framed v found.encoded d.valid)
   where
     by_phase : HasNone (HeaderFault b) → HasNone (StringsFault b) → HasNone (FramesFault b) → HasNone (FieldsFault b) → (phase : Phase) (place : ℕ) (cause : BtfCause) → ¬ Faults b phase place cause
     by_phase header strings frames fields InHeader = header

@@ -58,10 +58,10 @@ module _ (strings : List ℕ) (fs : List (List ℕ)) where
   }
 
 -- likewise for a section whose framing is valid
-module _ (s : Inside) (good : IsSection s) where
+module _ (s : Inside) (valid : IsSection s) where
   faultless_before : (n : ℕ) → ((k : ℕ) → k < n → IsFaultless s.strings.now (facts_in (words_in s)) (nth_frame s k)) → (k : ℕ) (g : List ℕ) → k < length s.places.now → k < n → slice_get ((words_in s).frames) k ≡ Some g → IsFaultless s.strings.now (facts_in (words_in s)) g
   faultless_before n none k g there low is =
-      subst (λ (x : List ℕ). IsFaultless s.strings.now (facts_in (words_in s)) x) (some_is (nth_frame s k) g (slice_get ((words_in s).frames) k) (frame_get s good k there) is) (none k low)
+      subst (λ (x : List ℕ). IsFaultless s.strings.now (facts_in (words_in s)) x) (some_is (nth_frame s k) g (slice_get ((words_in s).frames) k) (frame_get s valid k there) is) (none k low)
 
   get_inside : (k : ℕ) (g : List ℕ) → slice_get ((words_in s).frames) k ≡ Some g → k < length s.places.now
   get_inside k g is = omega (arith, slice_get_within _ k g is, length-map s.places.now (frame_at s.order s.types.now))
@@ -76,9 +76,9 @@ module _ (s : Inside) (good : IsSection s) where
       → LeastOfRecord s.strings.now (facts_in (words_in s)) (nth_frame s i) word c
       → LeastByPlace (FieldFault s.strings.now ((words_in s).frames)) (slice_index s.places.now i + 4 * word) c
   first_in_section i word c there none least =
-      let place : slice_index s.places.now i + 4 * word ≡ 4 * (length (concat (take i ((words_in s).frames))) + word) = omega (arith, starts_in s good i there) in
+      let place : slice_index s.places.now i + 4 * word ≡ 4 * (length (concat (take i ((words_in s).frames))) + word) = omega (arith, starts_in s valid i there) in
       rw place
-      (first_field_fault s.strings.now ((words_in s).frames) i (nth_frame s i) word c (frame_get s good i there)
+      (first_field_fault s.strings.now ((words_in s).frames) i (nth_frame s i) word c (frame_get s valid i there)
       (λ k g low is j d inside fault. faultless_before i none k g (get_inside k g is) low is j d inside fault)
       least.inside least.holds least.least)
 

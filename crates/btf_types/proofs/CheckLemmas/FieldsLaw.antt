@@ -1,38 +1,38 @@
--- The fields of a section have no fault if its frames spell good records.
+-- The fields of a section have no fault if its frames encode valid records.
 use Rattle.std.proofs.Common.{◌≡◌, ℕ, zero, suc, Some, List, [], ◌∷◌, map, refl, sym, subst}
 use Rattle.std.specs.{Prelude.slice_get, List.All, List.AllZip}
 use Rattle.std.proofs.lemmas.List.Elements.{All-head, All-tail}
 use Rattle.btf_raw.specs.Cause.{HasNone}
-use Rattle.btf_types.specs.{Values.TypeRecord, Spelling.Spells, Good.IsGoodRecord, Good.IsGood, Good.facts}
+use Rattle.btf_types.specs.{Values.TypeRecord, Encoding.Encodes, Valid.IsValidRecord, Valid.IsValid, Valid.facts}
 use Rattle.btf_types.specs.checks.{Numbers.TypeFacts, FieldFaults.FieldFault, FieldFaults.WordFault, FieldFaults.frame_facts}
-use Rattle.btf_types.proofs.FaultlessLemmas.SpelledFaultless.{spelled_faultless, spelled_facts}
+use Rattle.btf_types.proofs.FaultlessLemmas.EncodedFaultless.{encoded_faultless, encoded_facts}
 
-facts_spelled : (strings : List ℕ) (types : List TypeFacts) (v : List TypeRecord) (fs : List (List ℕ)) → All (IsGoodRecord types) v → AllZip (Spells strings) v fs → facts v ≡ map frame_facts fs
-facts_spelled strings types [] [] good spelled = refl
-facts_spelled strings types [] (f ∷ fs) good spelled = absurd spelled
-facts_spelled strings types (r ∷ v) [] good spelled = absurd spelled
-facts_spelled strings types (r ∷ v) (f ∷ fs) good spelled =
-    let first = spelled_facts strings types r f (All-head (IsGoodRecord types) r v good) spelled.0 in
-    let rest = facts_spelled strings types v fs (All-tail (IsGoodRecord types) r v good) spelled.1 in
+facts_encoded : (strings : List ℕ) (types : List TypeFacts) (v : List TypeRecord) (fs : List (List ℕ)) → All (IsValidRecord types) v → AllZip (Encodes strings) v fs → facts v ≡ map frame_facts fs
+facts_encoded strings types [] [] valid encoded = refl
+facts_encoded strings types [] (f ∷ fs) valid encoded = absurd encoded
+facts_encoded strings types (r ∷ v) [] valid encoded = absurd encoded
+facts_encoded strings types (r ∷ v) (f ∷ fs) valid encoded =
+    let first = encoded_facts strings types r f (All-head (IsValidRecord types) r v valid) encoded.0 in
+    let rest = facts_encoded strings types v fs (All-tail (IsValidRecord types) r v valid) encoded.1 in
     cc
 
--- the record that a frame of the list spells
-record SpelledThere (strings : List ℕ) (types : List TypeFacts) (f : List ℕ) : Type 0 where
+-- the record that a frame of the list encodes
+record EncodedThere (strings : List ℕ) (types : List TypeFacts) (f : List ℕ) : Type 0 where
   value : TypeRecord
-  good : IsGoodRecord types value
-  spells : Spells strings value f
+  valid : IsValidRecord types value
+  encodes : Encodes strings value f
 
-spelled_there : (strings : List ℕ) (types : List TypeFacts) (v : List TypeRecord) (fs : List (List ℕ)) (i : ℕ) (f : List ℕ) → All (IsGoodRecord types) v → AllZip (Spells strings) v fs → slice_get fs i ≡ Some f → SpelledThere strings types f
-spelled_there strings types v [] i f good spelled is = absurd cc
-spelled_there strings types [] (g ∷ fs) i f good spelled is = absurd spelled
-spelled_there strings types (r ∷ v) (g ∷ fs) zero f good spelled is =
+encoded_there : (strings : List ℕ) (types : List TypeFacts) (v : List TypeRecord) (fs : List (List ℕ)) (i : ℕ) (f : List ℕ) → All (IsValidRecord types) v → AllZip (Encodes strings) v fs → slice_get fs i ≡ Some f → EncodedThere strings types f
+encoded_there strings types v [] i f valid encoded is = absurd cc
+encoded_there strings types [] (g ∷ fs) i f valid encoded is = absurd encoded
+encoded_there strings types (r ∷ v) (g ∷ fs) zero f valid encoded is =
     let same : g ≡ f = cc in
-    record { value = r; good = All-head (IsGoodRecord types) r v good; spells = subst (λ (h : List ℕ). Spells strings r h) same spelled.0 }
-spelled_there strings types (r ∷ v) (g ∷ fs) (suc i) f good spelled is = spelled_there strings types v fs i f (All-tail (IsGoodRecord types) r v good) spelled.1 is
+    record { value = r; valid = All-head (IsValidRecord types) r v valid; encodes = subst (λ (h : List ℕ). Encodes strings r h) same encoded.0 }
+encoded_there strings types (r ∷ v) (g ∷ fs) (suc i) f valid encoded is = encoded_there strings types v fs i f (All-tail (IsValidRecord types) r v valid) encoded.1 is
 
-pub fields_have_none : (strings : List ℕ) (v : List TypeRecord) (fs : List (List ℕ)) → AllZip (Spells strings) v fs → IsGood v → HasNone (FieldFault strings fs)
-fields_have_none strings v fs spelled good p c fault =
-    let there = spelled_there strings (facts v) v fs fault.index fault.frame good.each spelled fault.frame_is in
-    let same = facts_spelled strings (facts v) v fs good.each spelled in
-    spelled_faultless strings (facts v) there.value fault.frame there.good there.spells fault.word c
+pub fields_have_none : (strings : List ℕ) (v : List TypeRecord) (fs : List (List ℕ)) → AllZip (Encodes strings) v fs → IsValid v → HasNone (FieldFault strings fs)
+fields_have_none strings v fs encoded valid p c fault =
+    let there = encoded_there strings (facts v) v fs fault.index fault.frame valid.each encoded fault.frame_is in
+    let same = facts_encoded strings (facts v) v fs valid.each encoded in
+    encoded_faultless strings (facts v) there.value fault.frame there.valid there.encodes fault.word c
     (subst (λ (ts : List TypeFacts). WordFault strings ts fault.frame fault.word c) (sym same) fault.fault)

@@ -24,7 +24,7 @@ length-section o (f ∷ fs) = omega (arith, length-append (bytes_of o f) (sectio
 pub ends_inside : (o : Order) (frames : List (List ℕ)) (i : ℕ) → i < length frames → length (section_of o (take i frames)) + 4 * length (get_or frames i []) ≤ length (section_of o frames)
 ends_inside o frames i h = omega (arith, length-flat_map-take (bytes_of o) frames i [] h, length-bytes_of o (get_or frames i []))
 
-module _ (s : Inside) (good : IsSection s) (i : ℕ) (there : i < length s.places.now) where
+module _ (s : Inside) (valid : IsSection s) (i : ℕ) (there : i < length s.places.now) where
   among : i < length ((words_in s).frames)
   among = omega (arith, length-map s.places.now (frame_at s.order s.types.now))
 
@@ -34,17 +34,17 @@ module _ (s : Inside) (good : IsSection s) (i : ℕ) (there : i < length s.place
   -- it exists, after the words of the records before it, four bytes each
   pub has_frame : HasFrame s.order s.types.now (slice_index s.places.now i)
   has_frame =
-      let start = good.framed.starts i there in
-      let whole : length s.types.now ≡ length (section_of s.order ((words_in s).frames)) = ap length good.framed.frames.whole in
+      let start = valid.framed.starts i there in
+      let whole : length s.types.now ≡ length (section_of s.order ((words_in s).frames)) = ap length valid.framed.frames.whole in
       let room : length (section_of s.order (take i ((words_in s).frames))) + 4 * length (nth_frame s i) ≤ length (section_of s.order ((words_in s).frames)) =
       rw frame_is at (ends_inside s.order ((words_in s).frames) i among) in
       record {
         inside = omega arith;
-        frame = subst (λ (g : List ℕ). IsFrame g) frame_is (good.framed.frames.each i [] among);
+        frame = subst (λ (g : List ℕ). IsFrame g) frame_is (valid.framed.frames.each i [] among);
       }
 
   pub starts_in : slice_index s.places.now i ≡ 4 * length (concat (take i ((words_in s).frames)))
-  starts_in = good.framed.starts i there ∙ length-section s.order (take i ((words_in s).frames))
+  starts_in = valid.framed.starts i there ∙ length-section s.order (take i ((words_in s).frames))
 
   pub frame_get : slice_get ((words_in s).frames) i ≡ Some (nth_frame s i)
   frame_get = get-map (frame_at s.order s.types.now) s.places.now i 0 there
@@ -61,10 +61,10 @@ unfolding tail_words fixed_words item_words
 int_has_word f frame int = let size : length f ≡ 4 = frame.size ∙ rw int (omega arith) in omega arith
 
 pub type_is : (s : Inside) (id : ℕ) → IsSection s → 0 < id → id ≤ length s.places.now → type_at (facts_in (words_in s)) id ≡ frame_facts (nth_frame s (id - 1))
-type_is s zero good some few = absurd (omega arith)
-type_is s (suc i) good some few =
+type_is s zero valid some few = absurd (omega arith)
+type_is s (suc i) valid some few =
     let e : suc i - 1 ≡ i = omega arith in
-    rw (e, eqb-suc-zero i, facts_get s good i (omega arith)) refl
+    rw (e, eqb-suc-zero i, facts_get s valid i (omega arith)) refl
 
 -- what the search cites of a type of a section
 pub ruleset types_of_section = (has_frame, type_is)

@@ -1,4 +1,4 @@
--- Frames without fault spell the records that they read as, and these records are good.
+-- Frames without fault encode the records that they read as, and these records are valid.
 use Rattle.std.proofs.Common.{◌≡◌, ◌≢◌, ◌⊎◌, inr, ℕ, zero, suc, ◌-◌, ◌^◌, ◌<◌, ◌≤◌, Bool, true, false, Some, None, List, [], ◌∷◌, length, get_or, map, refl, sym, ap, subst, ◌∙◌, inl, lit<, arith}
 use Rattle.std.specs.Prelude.{IsTrue, IfSome, slice_index, slice_get, unwrap_or, ◌==◌, if◌then◌else◌}
 use Rattle.std.specs.List.{All, AllZip, sum_by}
@@ -9,14 +9,14 @@ use Rattle.btf_raw.specs.KindNumbers.{STRUCT, UNION, FUNC, FUNC_PROTO, VAR, TYPE
 use Rattle.btf_raw.specs.{Cause.HasNone, Kinds.one_of, Kinds.has_target, Kinds.is_struct, Header.HasNulEnds, Header.TYPES_LIMIT, Header.STRINGS_LIMIT}
 use Rattle.btf_raw.specs.Frames.{IsFrame, bytes_of, section_of, kind, vlen, third_word}
 use Rattle.btf_raw.proofs.Frames.{length-bytes_of}
-use Rattle.btf_types.specs.{Spelling.Spells, Reading.component_of, Reading.record_of, Reading.frames_at, Sections.words_at}
+use Rattle.btf_types.specs.{Encoding.Encodes, Reading.component_of, Reading.record_of, Reading.frames_at, Sections.words_at}
 use Rattle.btf_types.specs.checks.Numbers.{TypeFacts, type_at, no_type, target_fits, component_fits}
-use Rattle.btf_types.specs.Good.{facts, IsGoodRecord, IsGood, record_size}
+use Rattle.btf_types.specs.Valid.{facts, IsValidRecord, IsValid, record_size}
 use Rattle.btf_types.specs.checks.{FieldFaults.FieldFault, FieldFaults.frame_facts, RecordFaults.IsFaultless}
 use Rattle.btf_types.specs.tables.TableInvariant.{IsFramed, IsTable}
-use Rattle.btf_types.proofs.{KindCases.one_among, StringLemmas.SpelledNames.spelled_table}
+use Rattle.btf_types.proofs.{KindCases.one_among, StringLemmas.EncodedNames.encoded_table}
 use Rattle.btf_types.proofs.FaultlessLemmas.FaultlessWords.{type_is, component_is}
-use Rattle.btf_types.proofs.FaultlessLemmas.FaultlessRecords.{frame_spells, frame_good, facts_same, size_same}
+use Rattle.btf_types.proofs.FaultlessLemmas.FaultlessRecords.{frame_encodes, frame_valid, facts_same, size_same}
 
 -- ---- what other records know of a type
 
@@ -72,8 +72,8 @@ module _ (strings : List ℕ) (frames : List (List ℕ)) (ends : HasNulEnds stri
       let is : IsFrame g = subst (λ (h : List ℕ). IsFrame h) of.there (each of.index g of.inside) in
       let is_there : slice_get frames of.index ≡ Some g = slice_get-get_or frames of.index g of.inside ∙ ap (λ (h : List ℕ). Some h) of.there in
       let func : kind g ≡ FUNC = ap (λ (u : TypeFacts). u.kind) (sym of.is) ∙ e in
-      let good = type_is strings types g ends is (faultless of.index g is_there) 2 (omega (arith, is.size)) (inl (rw func refl, refl)) in
-      ap (λ (u : TypeFacts). (type_at types u.target).kind) of.is ∙ eqb-true _ FUNC_PROTO (rw func at good.fits)
+      let valid = type_is strings types g ends is (faultless of.index g is_there) 2 (omega (arith, is.size)) (inl (rw func refl, refl)) in
+      ap (λ (u : TypeFacts). (type_at types u.target).kind) of.is ∙ eqb-true _ FUNC_PROTO (rw func at valid.fits)
 
   func_names : (id : ℕ) → (type_at types id).kind ≡ FUNC → (type_at types (type_at types id).target).kind ≡ FUNC_PROTO
   func_names id e = its_target (type_at types id) (type_found frames id (λ z. omega arith)) e
@@ -118,17 +118,17 @@ module _ (strings : List ℕ) (frames : List (List ℕ)) (ends : HasNulEnds stri
   all_right : All IsRight frames
   all_right i d low = frame_right (get_or frames i d) (each i d low) (faultless i (get_or frames i d) (slice_get-get_or frames i d low))
 
-  spelled_right : (fs : List (List ℕ)) → All IsRight fs → AllZip (Spells strings) (map (record_of strings) fs) fs
-  spelled_right [] all = tt
-  spelled_right (f ∷ fs) all =
+  encoded_right : (fs : List (List ℕ)) → All IsRight fs → AllZip (Encodes strings) (map (record_of strings) fs) fs
+  encoded_right [] all = tt
+  encoded_right (f ∷ fs) all =
       let one = All-head IsRight f fs all in
-      (frame_spells strings types f ends one.is_frame one.no_fault one.component, spelled_right fs (All-tail IsRight f fs all))
+      (frame_encodes strings types f ends one.is_frame one.no_fault one.component, encoded_right fs (All-tail IsRight f fs all))
 
-  good_right : (fs : List (List ℕ)) → All IsRight fs → All (IsGoodRecord types) (map (record_of strings) fs)
-  good_right [] all = All-nil (IsGoodRecord types)
-  good_right (f ∷ fs) all =
+  valid_right : (fs : List (List ℕ)) → All IsRight fs → All (IsValidRecord types) (map (record_of strings) fs)
+  valid_right [] all = All-nil (IsValidRecord types)
+  valid_right (f ∷ fs) all =
       let one = All-head IsRight f fs all in
-      All-cons (IsGoodRecord types) (record_of strings f) (map (record_of strings) fs) (frame_good strings types f ends one.is_frame one.no_fault one.component) (good_right fs (All-tail IsRight f fs all))
+      All-cons (IsValidRecord types) (record_of strings f) (map (record_of strings) fs) (frame_valid strings types f ends one.is_frame one.no_fault one.component) (valid_right fs (All-tail IsRight f fs all))
 
   facts_right : (fs : List (List ℕ)) → All IsRight fs → facts (map (record_of strings) fs) ≡ map frame_facts fs
   facts_right [] all = refl
@@ -146,14 +146,14 @@ module _ (strings : List ℕ) (frames : List (List ℕ)) (ends : HasNulEnds stri
       let rest = size_right o fs (All-tail IsRight f fs all) in
       omega (arith, sum_by-cons record_size (record_of strings f) (map (record_of strings) fs), first, rest, length-append (bytes_of o f) (section_of o fs), length-bytes_of o f)
 
-  pub frames_spell : AllZip (Spells strings) (map (record_of strings) frames) frames
-  frames_spell = spelled_right frames all_right
+  pub frames_encode : AllZip (Encodes strings) (map (record_of strings) frames) frames
+  frames_encode = encoded_right frames all_right
 
-  pub frames_good : (o : Order) → length strings ≤ STRINGS_LIMIT → length (section_of o frames) ≤ TYPES_LIMIT → IsGood (map (record_of strings) frames)
-  frames_good o short few = record {
-    each = subst (λ (ts : List TypeFacts). All (IsGoodRecord ts) (map (record_of strings) frames)) (sym (facts_right frames all_right)) (good_right frames all_right);
+  pub frames_valid : (o : Order) → length strings ≤ STRINGS_LIMIT → length (section_of o frames) ≤ TYPES_LIMIT → IsValid (map (record_of strings) frames)
+  frames_valid o short few = record {
+    each = subst (λ (ts : List TypeFacts). All (IsValidRecord ts) (map (record_of strings) frames)) (sym (facts_right frames all_right)) (valid_right frames all_right);
     size = omega (arith, size_right o frames all_right);
-    texts = spelled_table STRINGS_LIMIT strings (map (record_of strings) frames) frames ends short frames_spell;
+    texts = encoded_table STRINGS_LIMIT strings (map (record_of strings) frames) frames ends short frames_encode;
   }
 
 -- If no field of the frames at these offsets has a fault, they are a table.
@@ -167,6 +167,6 @@ fields_are_right o types strings places framed ends short few none =
       ends = ends;
       each = framed.frames.each;
       none = none;
-      spelled = frames_spell strings frames ends framed.frames.each none;
-      good = frames_good strings frames ends framed.frames.each none o short (subst (λ (t : List ℕ). length t ≤ TYPES_LIMIT) whole few);
+      encoded = frames_encode strings frames ends framed.frames.each none;
+      valid = frames_valid strings frames ends framed.frames.each none o short (subst (λ (t : List ℕ). length t ≤ TYPES_LIMIT) whole few);
     }

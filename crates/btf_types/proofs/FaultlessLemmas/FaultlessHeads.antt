@@ -1,4 +1,4 @@
--- The head that is read from a record's numbers, kind by kind: what it must be so that the numbers spell it and it is good.
+-- The head that is read from a record's numbers, kind by kind: what it must be so that the numbers encode it and it is valid.
 use Rattle.std.proofs.Common.{◌≡◌, ◌≢◌, ◌⊎◌, ℕ, zero, suc, ◌+◌, ◌*◌, ◌^◌, ◌<◌, ◌≤◌, Bool, true, false, List, [], ◌∷◌, length, refl, sym, ap, ◌∙◌, inl, inr, lit<, arith}
 use Rattle.std.specs.Prelude.{IsTrue, IfSome, ◌==◌, if◌then◌else◌}
 use Rattle.std.specs.List.{All}
@@ -6,10 +6,10 @@ use Rattle.std.proofs.lemmas.{Bool.eqb-true, List.Elements.All-nil, List.Element
 use Rattle.btf_raw.specs.{KindNumbers.INT, KindNumbers.ARRAY, KindNumbers.FUNC, KindNumbers.VAR, KindNumbers.DECL_TAG, KindNumbers.FWD, Heads.bit}
 use Rattle.btf_raw.specs.Kinds.{one_of, has_flag, has_vlen, fixed_words, item_words, has_target, needs_name, has_no_name}
 use Rattle.btf_types.specs.Values.{TypeHead, KFwd, KTypedef, KFunc, KVar, KDatasec, KDeclTag, KTypeTag, TypeItem}
-use Rattle.btf_types.specs.{Names.head_name, Good.HasNeededName, Good.HeadIsGood, Good.head_targets}
-use Rattle.btf_types.specs.Spelling.{kind_number, head_third, FlagSpells, linkage_number, encoding_number, component_word, record_vlen, head_tail, HeadInRange}
+use Rattle.btf_types.specs.{Names.head_name, Valid.HasNeededName, Valid.HeadIsValid, Valid.head_targets}
+use Rattle.btf_types.specs.Encoding.{kind_number, head_third, FlagEncodes, linkage_number, encoding_number, component_word, record_vlen, head_tail, HeadInRange}
 use Rattle.btf_types.specs.checks.Numbers.{TypeFacts, size_fits, bits_fit, component_fits}
-use Rattle.btf_types.specs.Good as good
+use Rattle.btf_types.specs.Valid as valid
 use Rattle.btf_types.specs.checks.FieldFaults.{int_unused, int_encoding, int_offset, int_bits}
 use Rattle.btf_types.specs.Reading.{head_from, linkage_of, encoding_of, component_of, is_set}
 use Rattle.btf_types.proofs.KindCases.{one_among, KindIs, IsInt, IsPtr, IsArray, IsStruct, IsUnion, IsEnum, IsFwd, IsTypedef, IsVolatile, IsConst, IsRestrict, IsFunc, IsFuncProto, IsVar, IsDatasec, IsDeclTag, IsTypeTag, IsEnum64}
@@ -56,7 +56,7 @@ unset : (flag : ℕ) → (flag ≡ 0) ⊎ IsTrue false → flag ≡ 0
 unset flag (inl e) = e
 unset flag (inr h) = absurd cc
 
-pub flag_of_head : {k : ℕ} → KindIs k → (name : List ℕ) (third flag vlen next fourth fifth : ℕ) → flag < 2 → ((flag ≡ 0) ⊎ IsTrue (has_flag k)) → FlagSpells (head_from name k third flag vlen next fourth fifth) flag
+pub flag_of_head : {k : ℕ} → KindIs k → (name : List ℕ) (third flag vlen next fourth fifth : ℕ) → flag < 2 → ((flag ≡ 0) ⊎ IsTrue (has_flag k)) → FlagEncodes (head_from name k third flag vlen next fourth fifth) flag
 unfolding head_from has_flag
 flag_of_head IsStruct name third flag vlen next fourth fifth bound allowed = bound
 flag_of_head IsUnion name third flag vlen next fourth fifth bound allowed = bound
@@ -129,7 +129,7 @@ vlen_of_head IsDatasec name third flag vlen next fourth fifth items count allowe
 vlen_of_head IsEnum64 name third flag vlen next fourth fifth items count allowed linkage = count
 vlen_of_head known name third flag vlen next fourth fifth items count allowed linkage = count ∙ no_list vlen allowed
 
--- ---- what makes it good
+-- ---- what makes it valid
 
 pub range_of_head : {k : ℕ} → KindIs k → (name : List ℕ) (third flag vlen next fourth fifth : ℕ) → third < 2 ^ 32 → next < 2 ^ 32 → fourth < 2 ^ 32 → fifth < 2 ^ 32
     → (k ≡ DECL_TAG → IfSome (component_of next) (λ c. c < 2 ^ 16)) → HeadInRange (head_from name k third flag vlen next fourth fifth)
@@ -156,12 +156,12 @@ targets_of_head IsDeclTag P name third flag vlen next fourth fifth a b c = All-c
 targets_of_head IsTypeTag P name third flag vlen next fourth fifth a b c = All-cons P third [] (a refl) (All-nil P)
 targets_of_head known P name third flag vlen next fourth fifth a b c = All-nil P
 
-pub good_head : {k : ℕ} → KindIs k → (types : List TypeFacts) (name : List ℕ) (third flag vlen next fourth fifth : ℕ) → (k ≡ INT → IntIsRight third next)
-    → (k ≡ DECL_TAG → IfSome (component_of next) (λ c. IsTrue (component_fits types third c))) → HeadIsGood types (head_from name k third flag vlen next fourth fifth)
+pub valid_head : {k : ℕ} → KindIs k → (types : List TypeFacts) (name : List ℕ) (third flag vlen next fourth fifth : ℕ) → (k ≡ INT → IntIsRight third next)
+    → (k ≡ DECL_TAG → IfSome (component_of next) (λ c. IsTrue (component_fits types third c))) → HeadIsValid types (head_from name k third flag vlen next fourth fifth)
 unfolding head_from
-good_head IsInt types name third flag vlen next fourth fifth int component = (int refl).bits
-good_head IsDeclTag types name third flag vlen next fourth fifth int component = component refl
-good_head known types name third flag vlen next fourth fifth int component = tt
+valid_head IsInt types name third flag vlen next fourth fifth int component = (int refl).bits
+valid_head IsDeclTag types name third flag vlen next fourth fifth int component = component refl
+valid_head known types name third flag vlen next fourth fifth int component = tt
 
 -- the size is checked against the number of items if that matters
 pub size_of_count : {k : ℕ} → KindIs k → (size vlen count : ℕ) → count ≡ count_of k vlen → IsTrue (size_fits k size vlen) → IsTrue (size_fits k size count)
@@ -171,12 +171,12 @@ size_of_count IsEnum64 size vlen count is fits = rw is fits
 size_of_count known size vlen count is fits = fits
 
 -- what other records ask of it
-pub offset_of_head : {k : ℕ} → KindIs k → (name : List ℕ) (third flag vlen next fourth fifth : ℕ) → good.head_int_offset (head_from name k third flag vlen next fourth fifth) ≡ (if k == INT then int_offset next else 0)
+pub offset_of_head : {k : ℕ} → KindIs k → (name : List ℕ) (third flag vlen next fourth fifth : ℕ) → valid.head_int_offset (head_from name k third flag vlen next fourth fifth) ≡ (if k == INT then int_offset next else 0)
 unfolding head_from
 offset_of_head IsInt name third flag vlen next fourth fifth = refl
 offset_of_head known name third flag vlen next fourth fifth = refl
 
-pub bits_of_head : {k : ℕ} → KindIs k → (name : List ℕ) (third flag vlen next fourth fifth : ℕ) → good.head_int_bits (head_from name k third flag vlen next fourth fifth) ≡ (if k == INT then int_bits next else 0)
+pub bits_of_head : {k : ℕ} → KindIs k → (name : List ℕ) (third flag vlen next fourth fifth : ℕ) → valid.head_int_bits (head_from name k third flag vlen next fourth fifth) ≡ (if k == INT then int_bits next else 0)
 unfolding head_from
 bits_of_head IsInt name third flag vlen next fourth fifth = refl
 bits_of_head known name third flag vlen next fourth fifth = refl

@@ -1,4 +1,4 @@
--- The items of a frame without fault: their fields spell them, and they are good.
+-- The items of a frame without fault: their fields encode them, and they are valid.
 use Rattle.std.proofs.Common.{◌≡◌, ◌≢◌, ℕ, zero, suc, ◌+◌, ◌*◌, ◌/◌, ◌%◌, ◌^◌, ◌<◌, ◌≤◌, Bool, true, false, List, [], ◌∷◌, length, take, drop, refl, inl, inr, lit<, arith}
 use Rattle.std.specs.Prelude.{IsTrue, slice_index, ◌==◌, if◌then◌else◌}
 use Rattle.std.specs.List.{All}
@@ -7,21 +7,21 @@ use Rattle.btf_raw.specs.KindNumbers.{STRUCT, UNION, ENUM, FUNC_PROTO, DATASEC, 
 use Rattle.btf_raw.specs.{Header.HasNulEnds, Names.NameAt, Kinds.item_words, Kinds.is_struct, Kinds.has_item_names}
 use Rattle.btf_raw.specs.Frames.{IsFrame, third_word, kind, vlen, flag}
 use Rattle.btf_types.specs.Values.{TypeHead, TypeItem, Member, EnumValue, Value64, Param, Entry}
-use Rattle.btf_types.specs.{Spelling.MemberWord, Spelling.ItemSpells, Spelling.ItemInRange, checks.Numbers.TypeFacts, checks.RecordFaults.IsFaultless}
-use Rattle.btf_types.specs.Good.{ItemOf, item_targets, TargetIsGood, MemberIsGood}
+use Rattle.btf_types.specs.{Encoding.MemberWord, Encoding.ItemEncodes, Encoding.ItemInRange, checks.Numbers.TypeFacts, checks.RecordFaults.IsFaultless}
+use Rattle.btf_types.specs.Valid.{ItemOf, item_targets, TargetIsValid, MemberIsValid}
 use Rattle.btf_types.specs.checks.FieldFaults.{IsTypeField, HasBitFields, bit_offset, width}
 use Rattle.btf_types.specs.Reading.{text_from, head_from, head_of, item_from, item_of}
 use Rattle.btf_types.proofs.KindCases.{KindIs, IsStruct, IsUnion, IsEnum, IsFuncProto, IsDatasec, IsEnum64}
 use Rattle.btf_types.proofs.{FaultlessLemmas.FaultlessHeads.count_of, TabulateSteps.two_at, TabulateSteps.three_at}
 use Rattle.btf_types.proofs.FaultlessLemmas.FaultlessWords.{item_ends, room, flag_low, type_is, item_name_is, member_int, member_place}
 
--- the fields spell the item, and it is one of a good record with this head
+-- the fields encode the item, and it is one of a valid record with this head
 pub record ItemIsRight (strings : List ℕ) (types : List TypeFacts) (frame : List ℕ) (bit_fields : Bool) (h : TypeHead) (x : TypeItem) (ws : List ℕ) : Type 0 where
-  pub spells : ItemSpells strings (flag frame) x ws
+  pub encodes : ItemEncodes strings (flag frame) x ws
   pub of : ItemOf h x
   pub range : ItemInRange x
-  pub targets : All (TargetIsGood types (kind frame)) (item_targets x)
-  pub member : MemberIsGood types (third_word frame) bit_fields x
+  pub targets : All (TargetIsValid types (kind frame)) (item_targets x)
+  pub member : MemberIsValid types (third_word frame) bit_fields x
 
 -- the offset field of a member, for either kind_flag
 pub member_word : (its_flag w : ℕ) → its_flag < 2 → MemberWord its_flag (if its_flag == 0 then w else w % 2 ^ 24) (if its_flag == 0 then 0 else w / 2 ^ 24) w
@@ -76,10 +76,10 @@ module _ (strings : List ℕ) (types : List TypeFacts) (frame : List ℕ) (ends 
         let name : NameAt strings (slice_index frame j) (text_from strings (slice_index frame j)) = rw is (item_name_is strings types frame ends is_frame none i named low (omega arith)) in
         let target = type_is strings types frame ends is_frame none (j + 1) (omega arith) field in
         record {
-          spells = (slice_index frame j, slice_index frame (j + 2), name, member_word (flag frame) (slice_index frame (j + 2)) (flag_low frame is_frame), refl);
+          encodes = (slice_index frame j, slice_index frame (j + 2), name, member_word (flag frame) (slice_index frame (j + 2)) (flag_low frame is_frame), refl);
           of = of _ _ _ _;
           range = (is_frame.words (j + 1), member_offset_low (flag frame) (slice_index frame (j + 2)) (is_frame.words (j + 2)), member_width_low (flag frame) (slice_index frame (j + 2)) (is_frame.words (j + 2)));
-          targets = All-cons (TargetIsGood types (kind frame)) (slice_index frame (j + 1)) [] target (All-nil (TargetIsGood types (kind frame)));
+          targets = All-cons (TargetIsValid types (kind frame)) (slice_index frame (j + 1)) [] target (All-nil (TargetIsValid types (kind frame)));
           member = (
             member_place strings types frame ends is_frame none (j + 2) (omega arith) (struct, i, (low, omega arith)),
             λ has.
@@ -97,10 +97,10 @@ module _ (strings : List ℕ) (types : List TypeFacts) (frame : List ℕ) (ends 
         let end = inside i 1 low (omega arith) in
         let name : NameAt strings (slice_index frame j) (text_from strings (slice_index frame j)) = rw is (item_name_is strings types frame ends is_frame none i named low (omega arith)) in
         record {
-          spells = (slice_index frame j, name, refl);
+          encodes = (slice_index frame j, name, refl);
           of = of _ _;
           range = is_frame.words (j + 1);
-          targets = All-nil (TargetIsGood types (kind frame));
+          targets = All-nil (TargetIsValid types (kind frame));
           member = tt;
         }
 
@@ -116,10 +116,10 @@ module _ (strings : List ℕ) (types : List TypeFacts) (frame : List ℕ) (ends 
         let lower : value % 2 ^ 32 ≡ slice_index frame (j + 1) = omega arith in
         let upper : value / 2 ^ 32 ≡ slice_index frame (j + 2) = omega arith in
         record {
-          spells = (slice_index frame j, name, rw (lower, upper) refl);
+          encodes = (slice_index frame j, name, rw (lower, upper) refl);
           of = of _ _;
           range = omega arith;
-          targets = All-nil (TargetIsGood types (kind frame));
+          targets = All-nil (TargetIsValid types (kind frame));
           member = tt;
         }
 
@@ -131,10 +131,10 @@ module _ (strings : List ℕ) (types : List TypeFacts) (frame : List ℕ) (ends 
         let name : NameAt strings (slice_index frame j) (text_from strings (slice_index frame j)) = rw is (item_name_is strings types frame ends is_frame none i named low (omega arith)) in
         let target = type_is strings types frame ends is_frame none (j + 1) (omega arith) field in
         record {
-          spells = (slice_index frame j, name, refl);
+          encodes = (slice_index frame j, name, refl);
           of = of _ _;
           range = is_frame.words (j + 1);
-          targets = All-cons (TargetIsGood types (kind frame)) (slice_index frame (j + 1)) [] target (All-nil (TargetIsGood types (kind frame)));
+          targets = All-cons (TargetIsValid types (kind frame)) (slice_index frame (j + 1)) [] target (All-nil (TargetIsValid types (kind frame)));
           member = tt;
         }
 
@@ -145,10 +145,10 @@ module _ (strings : List ℕ) (types : List TypeFacts) (frame : List ℕ) (ends 
         let end = inside i 2 low (omega arith) in
         let target = type_is strings types frame ends is_frame none j (omega arith) field in
         record {
-          spells = refl;
+          encodes = refl;
           of = of _ _ _;
           range = (is_frame.words j, is_frame.words (j + 1), is_frame.words (j + 2));
-          targets = All-cons (TargetIsGood types (kind frame)) (slice_index frame j) [] target (All-nil (TargetIsGood types (kind frame)));
+          targets = All-cons (TargetIsValid types (kind frame)) (slice_index frame j) [] target (All-nil (TargetIsValid types (kind frame)));
           member = tt;
         }
 

@@ -1,4 +1,4 @@
--- A frame without fault spells the record that it reads as, and that record is good.
+-- A frame without fault encodes the record that it reads as, and that record is valid.
 use Rattle.std.proofs.Common.{◌≡◌, ◌≢◌, ℕ, zero, suc, ◌+◌, ◌*◌, ◌^◌, ◌<◌, ◌≤◌, Bool, true, false, List, ◌∷◌, ◌++◌, length, take, drop, refl, sym, subst, ◌∙◌, inl, inr, arith}
 use Rattle.std.specs.Prelude.{IsTrue, IfSome, slice_index, ◌==◌, not, if◌then◌else◌}
 use Rattle.std.specs.List.{All, concat}
@@ -7,14 +7,14 @@ use Rattle.btf_raw.specs.KindNumbers.{FUNC, DECL_TAG}
 use Rattle.btf_raw.specs.{Header.HasNulEnds, Names.NameAt, Kinds.fixed_words, Kinds.item_words}
 use Rattle.btf_raw.specs.Frames.{IsFrame, name_word, info_word, third_word, kind, vlen, flag}
 use Rattle.btf_types.specs.{Values.TypeItem, Names.IsName, Names.head_name, Names.record_names}
-use Rattle.btf_types.specs.Spelling.{kind_number, head_third, record_vlen, head_tail, info, ItemSpells, Spells, HeadInRange, ItemInRange}
+use Rattle.btf_types.specs.Encoding.{kind_number, head_third, record_vlen, head_tail, info, ItemEncodes, Encodes, HeadInRange, ItemInRange}
 use Rattle.btf_types.specs.checks.{Numbers.TypeFacts, Numbers.size_fits, RecordFaults.IsFaultless}
-use Rattle.btf_types.specs.Good.{TargetIsGood, MemberIsGood, ItemOf, item_targets, head_targets, has_bit_fields, has_width, facts_of, IsGoodRecord, record_size}
+use Rattle.btf_types.specs.Valid.{TargetIsValid, MemberIsValid, ItemOf, item_targets, head_targets, has_bit_fields, has_width, facts_of, IsValidRecord, record_size}
 use Rattle.btf_types.specs.checks.FieldFaults.{HasBitFields, frame_facts, width}
 use Rattle.btf_types.specs.Reading.{text_from, component_of, head_of, item_from, item_of, item_total, record_of, tabulate}
-use Rattle.btf_types.proofs.{Lists.length-tabulate, StringLemmas.SpelledNames.record_names_there, CheckLemmas.RecordSteps.array_end}
+use Rattle.btf_types.proofs.{Lists.length-tabulate, StringLemmas.EncodedNames.record_names_there, CheckLemmas.RecordSteps.array_end}
 use Rattle.btf_types.proofs.KindCases.{KindIs, IsInt, IsArray, IsVar, IsDeclTag, IsStruct, IsUnion, IsEnum, IsFuncProto, IsDatasec, IsEnum64}
-use Rattle.btf_types.proofs.FaultlessLemmas.FaultlessHeads.{words_after, count_of, kind_of_head, name_of_head, named_head, third_of_head, flag_of_head, tail_of_head, vlen_of_head, range_of_head, targets_of_head, good_head, size_of_count, offset_of_head, bits_of_head, count_is, room_of_items}
+use Rattle.btf_types.proofs.FaultlessLemmas.FaultlessHeads.{words_after, count_of, kind_of_head, name_of_head, named_head, third_of_head, flag_of_head, tail_of_head, vlen_of_head, range_of_head, targets_of_head, valid_head, size_of_count, offset_of_head, bits_of_head, count_is, room_of_items}
 use Rattle.btf_types.proofs.FaultlessLemmas.FaultlessWords.{known, room, info_is, flag_low, vlen_low, name_is, needed, unwanted, zeroed, size_is, type_is, int_is, func_linkage, var_linkage, component_is}
 use Rattle.btf_types.proofs.FaultlessLemmas.FaultlessItems.{ItemIsRight, item_right}
 use Rattle.btf_types.proofs.TabulateSteps.{All-tabulate, AllZip-tabulate, any-tabulate, pieces, first_three, none_after, one_after, three_after}
@@ -128,8 +128,8 @@ module _ (strings : List ℕ) (types : List TypeFacts) (frame : List ℕ) (ends 
   few_items : length (tabulate item_at count) < 2 ^ 16
   few_items = omega (arith, length_items, count_low (kind frame) (vlen frame), vlen_low frame is_frame)
 
-  pub frame_spells : (kind frame ≡ DECL_TAG → IfSome (component_of (slice_index frame 3)) (λ c. c < 2 ^ 16)) → Spells strings (record_of strings frame) frame
-  frame_spells component = record {
+  pub frame_encodes : (kind frame ≡ DECL_TAG → IfSome (component_of (slice_index frame 3)) (λ c. c < 2 ^ 16)) → Encodes strings (record_of strings frame) frame
+  frame_encodes component = record {
     head_in_range = head_low component;
     items_in_range = items_low;
     items_fit = few_items;
@@ -137,47 +137,47 @@ module _ (strings : List ℕ) (types : List TypeFacts) (frame : List ℕ) (ends 
     flag = flag frame;
     item_words = tabulate words_at count;
     name = subst (λ (x : List ℕ). NameAt strings (name_word frame) x) (sym name_same) (name_is strings types frame ends is_frame none);
-    flag_spells = flag_of_head (known frame is_frame) name (third_word frame) (flag frame) (vlen frame) (slice_index frame 3) (slice_index frame 4) (slice_index frame 5) (flag_low frame is_frame) is_frame.info.flag;
-    items = AllZip-tabulate (ItemSpells strings (flag frame)) item_at words_at count (λ i low. (right i low).spells);
+    flag_encodes = flag_of_head (known frame is_frame) name (third_word frame) (flag frame) (vlen frame) (slice_index frame 3) (slice_index frame 4) (slice_index frame 5) (flag_low frame is_frame) is_frame.info.flag;
+    items = AllZip-tabulate (ItemEncodes strings (flag frame)) item_at words_at count (λ i low. (right i low).encodes);
     whole = all_words;
     fit = is_frame.words;
   }
 
-  -- and that record is good
-  names_good : (kind frame ≡ DECL_TAG → IfSome (component_of (slice_index frame 3)) (λ c. c < 2 ^ 16)) → All IsName (record_names (record_of strings frame))
-  names_good component i d low =
-      let is_there = record_names_there strings (record_of strings frame) frame ends (frame_spells component) i d low in
+  -- and that record is valid
+  names_valid : (kind frame ≡ DECL_TAG → IfSome (component_of (slice_index frame 3)) (λ c. c < 2 ^ 16)) → All IsName (record_names (record_of strings frame))
+  names_valid component i d low =
+      let is_there = record_names_there strings (record_of strings frame) frame ends (frame_encodes component) i d low in
       record { utf8 = is_there.1.utf8; without_nul = is_there.1.text.without_nul }
 
-  size_good : IsTrue (size_fits (kind_number (head_of frame name)) (head_third (head_of frame name)) (length (tabulate item_at count)))
-  size_good = rw (kind_same, third_same) (size_of_count (known frame is_frame) (third_word frame) (vlen frame) (length (tabulate item_at count)) length_items (size_is strings types frame ends is_frame none))
+  size_valid : IsTrue (size_fits (kind_number (head_of frame name)) (head_third (head_of frame name)) (length (tabulate item_at count)))
+  size_valid = rw (kind_same, third_same) (size_of_count (known frame is_frame) (third_word frame) (vlen frame) (length (tabulate item_at count)) length_items (size_is strings types frame ends is_frame none))
 
-  targets_good : All (TargetIsGood types (kind_number (head_of frame name))) (head_targets (head_of frame name))
-  targets_good = rw kind_same
-      (targets_of_head (known frame is_frame) (TargetIsGood types (kind frame)) name (third_word frame) (flag frame) (vlen frame) (slice_index frame 3) (slice_index frame 4) (slice_index frame 5)
+  targets_valid : All (TargetIsValid types (kind_number (head_of frame name))) (head_targets (head_of frame name))
+  targets_valid = rw kind_same
+      (targets_of_head (known frame is_frame) (TargetIsValid types (kind frame)) name (third_word frame) (flag frame) (vlen frame) (slice_index frame 3) (slice_index frame 4) (slice_index frame 5)
       (λ has. type_is strings types frame ends is_frame none 2 three (inl (has, refl)))
       (λ array. type_is strings types frame ends is_frame none 3 (omega (arith, array_end is_frame array)) (inr (inl (array, inl refl))))
       (λ array. type_is strings types frame ends is_frame none 4 (omega (arith, array_end is_frame array)) (inr (inl (array, inr refl)))))
 
-  item_targets_good : All (λ item. All (TargetIsGood types (kind_number (head_of frame name))) (item_targets item)) (tabulate item_at count)
-  item_targets_good = rw kind_same (All-tabulate (λ item. All (TargetIsGood types (kind frame)) (item_targets item)) item_at count (λ i low. (right i low).targets))
+  item_targets_valid : All (λ item. All (TargetIsValid types (kind_number (head_of frame name))) (item_targets item)) (tabulate item_at count)
+  item_targets_valid = rw kind_same (All-tabulate (λ item. All (TargetIsValid types (kind frame)) (item_targets item)) item_at count (λ i low. (right i low).targets))
 
-  members_good : All (MemberIsGood types (head_third (head_of frame name)) (has_bit_fields (record_of strings frame))) (tabulate item_at count)
-  members_good = rw third_same (All-tabulate (MemberIsGood types (third_word frame) (has_bit_fields (record_of strings frame))) item_at count (λ i low. (right i low).member))
+  members_valid : All (MemberIsValid types (head_third (head_of frame name)) (has_bit_fields (record_of strings frame))) (tabulate item_at count)
+  members_valid = rw third_same (All-tabulate (MemberIsValid types (third_word frame) (has_bit_fields (record_of strings frame))) item_at count (λ i low. (right i low).member))
 
-  pub frame_good : (kind frame ≡ DECL_TAG → IfSome (component_of (slice_index frame 3)) (λ c. c < 2 ^ 16)) → IsGoodRecord types (record_of strings frame)
-  frame_good component = record {
+  pub frame_valid : (kind frame ≡ DECL_TAG → IfSome (component_of (slice_index frame 3)) (λ c. c < 2 ^ 16)) → IsValidRecord types (record_of strings frame)
+  frame_valid component = record {
     head_in_range = head_low component;
     items_in_range = items_low;
     items_of = All-tabulate (ItemOf (head_of frame name)) item_at count (λ i low. (right i low).of);
     items_fit = few_items;
-    names = names_good component;
+    names = names_valid component;
     named = named_head (head_of frame name) (λ needs e. needed strings types frame ends is_frame none (rw kind_same at needs) (sym name_same ∙ e));
-    size = size_good;
-    head_targets = targets_good;
-    item_targets = item_targets_good;
-    members = members_good;
-    head = good_head (known frame is_frame) types name (third_word frame) (flag frame) (vlen frame) (slice_index frame 3) (slice_index frame 4) (slice_index frame 5) (int_is strings types frame ends is_frame none)
+    size = size_valid;
+    head_targets = targets_valid;
+    item_targets = item_targets_valid;
+    members = members_valid;
+    head = valid_head (known frame is_frame) types name (third_word frame) (flag frame) (vlen frame) (slice_index frame 3) (slice_index frame 4) (slice_index frame 5) (int_is strings types frame ends is_frame none)
         (component_is strings types frame ends is_frame none);
   }
 

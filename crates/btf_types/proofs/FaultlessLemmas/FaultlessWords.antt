@@ -7,7 +7,7 @@ use Rattle.btf_raw.specs.KindNumbers.{INT, ARRAY, FWD, FUNC, VAR, DECL_TAG}
 use Rattle.btf_raw.specs.{Header.HasNulEnds, Names.TextAt, Names.NameAt}
 use Rattle.btf_raw.specs.Kinds.{one_of, kind_of, vlen_of, flag_of, unused_of, fixed_words, item_words, tail_words, needs_name, has_no_name, has_item_names}
 use Rattle.btf_raw.specs.Frames.{IsFrame, name_word, info_word, third_word, kind, vlen, flag}
-use Rattle.btf_types.specs.{Spelling.info, Good.TargetIsGood, checks.RecordFaults.IsFaultless, Reading.text_from, Reading.component_of}
+use Rattle.btf_types.specs.{Encoding.info, Valid.TargetIsValid, checks.RecordFaults.IsFaultless, Reading.text_from, Reading.component_of}
 use Rattle.btf_types.specs.checks.Numbers.{TypeFacts, type_at, size_fits, bits_fit, target_fits, component_fits, member_fits, member_int_fits}
 use Rattle.btf_types.specs.checks.FieldFaults.{IsTypeField, IsMemberWord, HasBitFields, bit_offset, width, int_unused, int_encoding, int_bits}
 use Rattle.btf_types.proofs.{KindCases.KindIs, KindCases.kind_is, FaultlessLemmas.FaultlessHeads.IntIsRight, CheckLemmas.RecordSteps.fourth_end}
@@ -73,7 +73,7 @@ module _ (strings : List ℕ) (types : List TypeFacts) (frame : List ℕ) (ends 
   pub size_is : IsTrue (size_fits (kind frame) (third_word frame) (vlen frame))
   size_is = passes (size_fits (kind frame) (third_word frame) (vlen frame)) (λ fails. none 2 Size three (refl, fails))
 
-  pub type_is : (j : ℕ) → j < length frame → IsTypeField frame j → TargetIsGood types (kind frame) (slice_index frame j)
+  pub type_is : (j : ℕ) → j < length frame → IsTypeField frame j → TargetIsValid types (kind frame) (slice_index frame j)
   type_is j inside field =
       let there = below (slice_index frame j) (length types) (λ past. none j Reference inside (field, past)) in
       record {

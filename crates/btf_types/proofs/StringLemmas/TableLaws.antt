@@ -30,9 +30,9 @@ shared_place_holds xs (b ∷ bytes) n h =
     subst (λ (m : ℕ). TextAt (shared_table xs) (place_in (hosts xs) y + m) x) same at_end
 
 pub shared_places : (xs : List (List ℕ)) → SharedPlacesHold xs
-shared_places xs good = λ k d h. record {
-  text = shared_place_holds xs (get_or xs k d) (λ z i. (All-contains IsName xs z good (Contains-from_Has xs z i)).without_nul) (Has-get_or xs k d h);
-  utf8 = (good k d h).utf8;
+shared_places xs valid = λ k d h. record {
+  text = shared_place_holds xs (get_or xs k d) (λ z i. (All-contains IsName xs z valid (Contains-from_Has xs z i)).without_nul) (Has-get_or xs k d h);
+  utf8 = (valid k d h).utf8;
 }
 
 -- the two ways to say that a section begins and ends with NUL

@@ -7,14 +7,14 @@ use Rattle.btf_raw.specs.{KindNumbers.DECL_TAG, Header.HasNulEnds, Names.NameAt,
 use Rattle.btf_raw.specs.Frames.{IsFrame, section_of, kind, name_word}
 use Rattle.btf_raw.proofs.Texts.{TextAt-unique, TextAt-inside}
 use Rattle.btf_types.specs.{Values.TypeRecord, checks.FieldFaults.frame_facts}
-use Rattle.btf_types.specs.{Spelling.Spells, Spelling.HeadInRange}
+use Rattle.btf_types.specs.{Encoding.Encodes, Encoding.HeadInRange}
 use Rattle.btf_types.specs.tables.{TableInvariant.IsChecked, PlaceWords.HasRecordAt, TableWords.record_at, TableWords.no_record}
 use Rattle.btf_types.proofs.Lists.{length-tabulate, get-map, zip_at}
 use Rattle.btf_types.proofs.{CheckLemmas.SectionSteps.ends_inside, TableLemmas.TextSteps.text_there}
 use Rattle.btf_types.specs.Reading.{text_from, frame_at, frames_at, record_of, records_at, item_of, item_total, head_from, head_of, component_of}
 use Rattle.btf_types.proofs.FaultlessLemmas.{Faultless.faultless, ItemReads.item_names_there}
 
-name_at_word : (strings : List ℕ) (r : TypeRecord) (f : List ℕ) → HasNulEnds strings → Spells strings r f → NameAt strings (name_word f) (text_from strings (name_word f))
+name_at_word : (strings : List ℕ) (r : TypeRecord) (f : List ℕ) → HasNulEnds strings → Encodes strings r f → NameAt strings (name_word f) (text_from strings (name_word f))
 name_at_word strings r f ends s =
     let offset : name_word f ≡ s.name_offset = ap (λ (t : List ℕ). slice_index t 0) s.whole in
     let text = text_there strings s.name_offset ends (TextAt-inside strings s.name_offset _ s.name.text) in
@@ -43,20 +43,20 @@ has_record_at o types strings places i checked h =
     let start = checked.framed.starts i h in
     let whole : length types ≡ length (section_of o frames) = ap length checked.framed.frames.whole in
     let room : length (section_of o (take i frames)) + 4 * length f ≤ length (section_of o frames) = rw frame-is at (ends_inside o frames i inside) in
-    let spelled : Spells strings (record_of strings f) f =
-    rw (get_or-map (record_of strings) frames i [] (record_of strings []) inside, frame-is) at (zip_at (Spells strings) (map (record_of strings) frames) frames i (record_of strings []) [] table.spelled (omega (arith, inside, length-map frames (record_of strings)))) in
+    let encoded : Encodes strings (record_of strings f) f =
+    rw (get_or-map (record_of strings) frames i [] (record_of strings []) inside, frame-is) at (zip_at (Encodes strings) (map (record_of strings) frames) frames i (record_of strings []) [] table.encoded (omega (arith, inside, length-map frames (record_of strings)))) in
     let is : IsFrame f = subst (λ (g : List ℕ). IsFrame g) frame-is (checked.framed.frames.each i [] inside) in
     record {
       inside = omega arith;
       reads = record {
         ends = table.ends;
         frame = is;
-        spelled = spelled;
-        name = name_at_word strings (record_of strings f) f table.ends spelled;
+        encoded = encoded;
+        name = name_at_word strings (record_of strings f) f table.ends encoded;
         item_names =
             let frame_there : slice_get frames i ≡ Some f = slice_get-get_or frames i [] inside ∙ ap (λ (g : List ℕ). Some g) frame-is in
             item_names_there strings (map frame_facts frames) f table.ends is (faultless strings frames table.ends checked.framed.frames.each table.none i f frame_there);
-        component = λ tag. component_fits_word (slice_index f 3) (tag_in_range (text_from strings (name_word f)) f tag spelled.head_in_range);
+        component = λ tag. component_fits_word (slice_index f 3) (tag_in_range (text_from strings (name_word f)) f tag encoded.head_in_range);
       };
     }
 

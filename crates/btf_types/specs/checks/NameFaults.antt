@@ -1,4 +1,3 @@
--- Only private contracts cite this file.
 -- What a cause says of names and of further fields of a record.
 use Rattle.std.specs.Prelude.{◌≢◌, ◌⊎◌, ℕ, ◌<◌, ◌≤◌, Bool, ◌∷◌, IsFalse, IsTrue, IsUtf8, List, [], length}
 use Rattle.btf_raw.specs.{declared.cause.BtfCause.BtfCause, Names.TextAt, Kinds.one_of, Kinds.needs_name, Kinds.has_no_name}

@@ -1,4 +1,3 @@
--- Only private contracts cite this file.
 -- The parts of a section whose framing is valid.
 use Rattle.std.specs.Prelude.{◌^◌, ◌≤◌, length}
 use Rattle.btf_raw.specs.Header.{HasNulEnds}

@@ -1,4 +1,3 @@
--- Only private contracts cite this file.
 -- Which strings of a string section are UTF-8. A string begins at any offset, and ends at the next NUL.
 use Rattle.std.specs.Prelude.{◌≡◌, ◌↔◌, ℕ, ◌<◌, ◌≤◌, Bool, true, false, IsUtf8, Option, None, Some, List, length, get_or, slice_index}
 use Rattle.btf_raw.specs.Names.{TextAt}

@@ -4,7 +4,7 @@ use Rattle.std.specs.List.{All, AllZip, Any, Contains, flat_map, sum_by, Sorted.
 use Rattle.std.specs.Ordering.{is_lt}
 use Rattle.bpf_words.specs.declared.Order.{Order}
 use Rattle.btf_raw.specs.{Header.HasNulEnds, Names.NameAt, Names.IsWithoutNul}
-use Rattle.btf_types.specs.{Values.TypeRecord, Spelling.IsRecord, strings.StringTable.string_table}
+use Rattle.btf_types.specs.{Values.TypeRecord, Encoding.IsRecord, strings.StringTable.string_table}
 use Rattle.btf_types.specs.Names.{IsName, with_nul, kept, table_of}
 use Rattle.btf_types.specs.strings.SharedNames.{is_suffix, is_proper_suffix, tail_cmp, hosts, host, shared_table, shared_place}
 
@@ -70,6 +70,6 @@ HostIsLeast xs = (x : List ℕ) → Contains (kept xs) x → IsLeastHost xs x (h
 abbrev pub HostIsOne : List (List ℕ) → Type 0
 HostIsOne xs = (x g h : List ℕ) → IsLeastHost xs x g → IsLeastHost xs x h → g ≡ h
 
--- the string table of records is no longer than a string section that spells them and has NUL ends
-abbrev pub SpelledTableFits : Type 0
-SpelledTableFits = (o : Order) (strings : List ℕ) (v : List TypeRecord) (spellings : List (List ℕ)) → HasNulEnds strings → AllZip (IsRecord o strings) v spellings → length (string_table v) ≤ length strings
+-- the string table of records is no longer than a string section that encodes them and has NUL ends
+abbrev pub EncodedTableFits : Type 0
+EncodedTableFits = (o : Order) (strings : List ℕ) (v : List TypeRecord) (encodings : List (List ℕ)) → HasNulEnds strings → AllZip (IsRecord o strings) v encodings → length (string_table v) ≤ length strings

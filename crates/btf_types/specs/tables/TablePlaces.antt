@@ -16,7 +16,7 @@ TypeRecords = List TypeRecord
 abbrev pub placed_records : Order → List ℕ → List ℕ → TablePlaces → TypeRecords
 placed_records o types strings places = records_at o types strings places.records
 
--- the records at the offsets that a table keeps are framed, without fault, spelled there and good
+-- the records at the offsets that a table keeps are framed, without fault, encoded there and valid
 pub record IsPlacedTable (o : Order) (types strings : List ℕ) (places : TablePlaces) : Type 0 where
   pub table : IsChecked o types strings places.records
   pub ends : AreLongEnds strings places.ends

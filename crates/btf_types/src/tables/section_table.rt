@@ -9,7 +9,7 @@
 
 ghost use Rattle.std.specs.Prelude.{◌≡◌, ◌<◌, ◌≤◌, Some, length, slice_get, List, IfSome, IsSome};
 ghost use Rattle.btf_types.specs.Values.{head_value, item_value, TypeRecord};
-ghost use Rattle.btf_types.specs.{Good.IsGood, Sections.records_in, tables.Windows.items_of};
+ghost use Rattle.btf_types.specs.{Valid.IsValid, Sections.records_in, tables.Windows.items_of};
 ghost use Rattle.btf_types.specs.tables.{TableWords.record_at, TableWords.numbered};
 ghost use Rattle.btf_types.specs.tables.StringEnds.{AreLongEnds};
 
@@ -51,7 +51,7 @@ impl<'a> SectionTable<'a> {
     /// The number of records.
     pub fn count(&self) -> u32
         ensures count { result ≡ length self.now }
-        ensures good { IsGood self.now }
+        ensures valid { IsValid self.now }
     {
         self.file.count()
     }

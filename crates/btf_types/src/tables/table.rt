@@ -6,7 +6,7 @@
 //! and copy records without decoding them. For this, string offsets are visible above this crate.
 
 ghost use Rattle.std.specs.Prelude.{◌≡◌, ◌<◌, ◌≤◌, List, Some, IfSome, length, slice_get};
-ghost use Rattle.btf_types.specs.{Good.IsGood, Sections.records_in, tables.TableWords.record_at};
+ghost use Rattle.btf_types.specs.{Valid.IsValid, Sections.records_in, tables.TableWords.record_at};
 ghost use Rattle.btf_types.specs.Values.{TypeRecord, head_value, item_value};
 
 use crate::tables::FileSections;
@@ -24,7 +24,7 @@ pub trait TypeTable {
     /// The number of records, which is also the largest ID.
     fn count(&self) -> u32
         ensures count { result ≡ length (meaning self.now) }
-        ensures good { IsGood (meaning self.now) };
+        ensures valid { IsValid (meaning self.now) };
 
     /// The head of the record with the ID `id`, which must be 1 to [`TypeTable::count`].
     fn head(&self, id: u32) -> Head<'_>

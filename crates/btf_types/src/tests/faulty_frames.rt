@@ -36,7 +36,7 @@ static ROWS: [&[Row]; 8] = [&[
     Row { name: "a lone continuation", file: Fields("00000001 10000000 00000008", b"\0\x80\0"), wanted: Fault(24, Cause::NameUtf8) },
 ], &[
     Row { name: "a surrogate", file: Fields("00000001 10000000 00000008", b"\0\xed\xa0\x80\0"), wanted: Fault(24, Cause::NameUtf8) },
-    Row { name: "a letter spelled too long", file: Fields("00000001 10000000 00000008", b"\0\xc1\x81\0"), wanted: Fault(24, Cause::NameUtf8) },
+    Row { name: "a letter encoded too long", file: Fields("00000001 10000000 00000008", b"\0\xc1\x81\0"), wanted: Fault(24, Cause::NameUtf8) },
     Row { name: "a name from within a letter", file: Fields("00000002 10000000 00000008", b"\0\xc3\xa9\0"), wanted: Fault(24, Cause::NameUtf8) },
     Row { name: "a value's text", file: Fields("00000000 13000001 00000008 00000001 00000000 00000000", b"\0a\xff\0"), wanted: Fault(36, Cause::NameUtf8) },
     Row { name: "a nameless FWD", file: Fields("00000000 07000000 00000000", b"\0"), wanted: Fault(24, Cause::NameMissing) },

@@ -6,14 +6,14 @@ use Rattle.std.proofs.lemmas.List.{map-append, Elements.All-head, Elements.All-t
 use Rattle.btf_raw.specs.{Header.HasNulEnds, Kinds.layout_of, Kinds.item_words, Kinds.has_item_names, declared.info.Layout.Layout}
 use Rattle.btf_raw.specs.Frames.{IsFrame, name_word, kind, vlen, flag}
 use Rattle.btf_raw.proofs.Texts.{TextAt-unique, TextAt-inside}
-use Rattle.btf_types.specs.{Values.TypeRecord, Spelling.Spells}
+use Rattle.btf_types.specs.{Values.TypeRecord, Encoding.Encodes}
 use Rattle.btf_types.specs.Names.{head_name, item_name, record_names, names, is_other, distinct, is_some_text, kept}
 use Rattle.btf_types.specs.Reading.{text_from, item_from, item_total, record_of, tabulate}
 use Rattle.btf_types.proofs.KindCases.{KindIs, IsStruct, IsUnion, IsEnum, IsFuncProto, IsEnum64}
 use Rattle.btf_types.proofs.{FaultlessLemmas.FaultlessWords.known, Lists.length-tabulate, Lists.get_or-tabulate}
 use Rattle.btf_types.proofs.TableLemmas.TextSteps.{text_there}
 use Rattle.bpf_canon.specs.btf.write.NameOffsets.{item_word, name_offsets, all_offsets}
-use Rattle.bpf_canon.proofs.BtfLemmas.CanonicalSpells.{All-front, All-back}
+use Rattle.bpf_canon.proofs.BtfLemmas.CanonicalEncodes.{All-front, All-back}
 
 -- ---- empty names aren't kept
 
@@ -62,7 +62,7 @@ named_words kind_is has = grind arith
 pub named_total : (f : List ℕ) → IsFrame f → has_item_names (kind f) ≡ true → item_total f ≡ vlen f
 named_total f is has = rw (named_words (known f is) has) refl
 
-pub head_name_is : (strings : List ℕ) (r : TypeRecord) (f : List ℕ) → HasNulEnds strings → Spells strings r f → head_name r.head ≡ text_from strings (name_word f)
+pub head_name_is : (strings : List ℕ) (r : TypeRecord) (f : List ℕ) → HasNulEnds strings → Encodes strings r f → head_name r.head ≡ text_from strings (name_word f)
 head_name_is strings r f ends s =
     let offset : name_word f ≡ s.name_offset = ap (λ (t : List ℕ). slice_index t 0) s.whole in
     let text = text_there strings s.name_offset ends (TextAt-inside strings s.name_offset _ s.name.text) in
@@ -78,7 +78,7 @@ item_names_none strings f is none = search (rules, map-tabulate, item_nameless, 
 some_more : (x : List ℕ) (xs ys : List (List ℕ)) → filter is_some_text xs ≡ filter is_some_text ys → filter is_some_text (x ∷ xs) ≡ filter is_some_text (x ∷ ys)
 some_more x xs ys e = cc
 
-record_texts : (strings f : List ℕ) → HasNulEnds strings → IsFrame f → Spells strings (record_of strings f) f
+record_texts : (strings f : List ℕ) → HasNulEnds strings → IsFrame f → Encodes strings (record_of strings f) f
     → filter is_some_text (map (text_from strings) (name_offsets f)) ≡ filter is_some_text (record_names (record_of strings f))
 record_texts strings f ends is s =
     let r = record_of strings f in
@@ -89,7 +89,7 @@ record_texts strings f ends is s =
 
 -- ---- the names of all
 
-all_texts : (strings : List ℕ) (frames : List (List ℕ)) → HasNulEnds strings → All IsFrame frames → AllZip (Spells strings) (map (record_of strings) frames) frames
+all_texts : (strings : List ℕ) (frames : List (List ℕ)) → HasNulEnds strings → All IsFrame frames → AllZip (Encodes strings) (map (record_of strings) frames) frames
     → filter is_some_text (map (text_from strings) (all_offsets frames)) ≡ filter is_some_text (names (map (record_of strings) frames))
 all_texts strings [] ends is s = refl
 all_texts strings (f ∷ frames) ends is s =
@@ -99,7 +99,7 @@ all_texts strings (f ∷ frames) ends is s =
     let rest = all_texts strings frames ends (All-tail IsFrame f frames is) s.1 in
     grind (arith, map-append, filter-append)
 
-pub kept_at_offsets : (strings : List ℕ) (frames : List (List ℕ)) → HasNulEnds strings → All IsFrame frames → AllZip (Spells strings) (map (record_of strings) frames) frames
+pub kept_at_offsets : (strings : List ℕ) (frames : List (List ℕ)) → HasNulEnds strings → All IsFrame frames → AllZip (Encodes strings) (map (record_of strings) frames) frames
     → kept (map (text_from strings) (all_offsets frames)) ≡ kept (names (map (record_of strings) frames))
 kept_at_offsets strings frames ends is s =
     sym (kept_of_some (map (text_from strings) (all_offsets frames)))

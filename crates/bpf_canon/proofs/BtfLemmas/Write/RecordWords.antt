@@ -9,12 +9,12 @@ use Rattle.bpf_words.specs.{declared.Order.Order, Words.word32}
 use Rattle.btf_raw.specs.{Header.HasNulEnds, Kinds.item_words, Kinds.kind_of, Kinds.has_item_names, Kinds.is_struct}
 use Rattle.btf_raw.specs.Frames.{IsFrame, info_word, third_word, name_word, kind, vlen, flag, bytes_of, section_of}
 use Rattle.btf_types.specs.Values.{TypeHead, TypeItem, Entry, TypeRecord}
-use Rattle.btf_types.specs.{Names.head_name, checks.RecordFaults.BitFieldsAre, Good.has_width, Good.has_bit_fields}
-use Rattle.btf_types.specs.Spelling.{kind_number, head_third, head_tail, FlagSpells, record_vlen, info, ItemSpells, Spells}
+use Rattle.btf_types.specs.{Names.head_name, checks.RecordFaults.BitFieldsAre, Valid.has_width, Valid.has_bit_fields}
+use Rattle.btf_types.specs.Encoding.{kind_number, head_third, head_tail, FlagEncodes, record_vlen, info, ItemEncodes, Encodes}
 use Rattle.btf_types.specs.Reading.{text_from, head_from, item_from, item_of, item_total, record_of, tabulate}
 use Rattle.btf_types.proofs.KindCases.{KindIs, IsStruct, IsUnion, IsEnum, IsFuncProto, IsEnum64}
 use Rattle.btf_types.proofs.FaultlessLemmas.{FaultlessRecords.bit_fields_there, FaultlessWords.known, FaultlessWords.room}
-use Rattle.btf_types.proofs.Spelled.{info_parts, InfoParts, kind_below, vlen_below, flag_below}
+use Rattle.btf_types.proofs.Encoded.{info_parts, InfoParts, kind_below, vlen_below, flag_below}
 use Rattle.btf_types.proofs.{TableLemmas.TableReads.count_there, TableLemmas.TextSteps.decided, TabulateSteps.All-tabulate}
 use Rattle.bpf_canon.specs.btf.CanonicalBtf.{canonical_flag, words_of_item as words_of, record_words}
 use Rattle.bpf_canon.specs.btf.write.BtfWords.{record_info}
@@ -83,7 +83,7 @@ bit_fields_same strings f false frame is some are = grind (arith, bit_fields_the
 
 -- ---- info
 
-other_flag : (h : TypeHead) (flag : ℕ) (b : Bool) → FlagSpells h flag → is_struct (kind_number h) ≡ false → canonical_flag h b ≡ flag
+other_flag : (h : TypeHead) (flag : ℕ) (b : Bool) → FlagEncodes h flag → is_struct (kind_number h) ≡ false → canonical_flag h b ≡ flag
 other_flag h marked b e other = grind arith
 
 cleared : (k v marked : ℕ) → k < 2 ^ 5 → v < 2 ^ 16 → marked ≡ 1 → info k v marked % 2 ^ 31 ≡ info k v 0
@@ -92,9 +92,9 @@ cleared k v marked hk hv one = omega arith
 total_low : (f : List ℕ) → item_total f < 2 ^ 16
 total_low f = elim (decided (item_words (kind f) == 0)) [ inl none ↦ rw none (omega arith) | inr some ↦ rw some (omega arith) ]
 
-module _ (strings f : List ℕ) (r : TypeRecord) (few : length r.items < 2 ^ 16) (s : Spells strings r f) where
+module _ (strings f : List ℕ) (r : TypeRecord) (few : length r.items < 2 ^ 16) (s : Encodes strings r f) where
   flag_low : s.flag < 2
-  flag_low = flag_below r.head s.flag s.flag_spells
+  flag_low = flag_below r.head s.flag s.flag_encodes
 
   parts : InfoParts (info (kind_number r.head) (record_vlen r) s.flag) (kind_number r.head) (record_vlen r) s.flag
   parts = info_parts (kind_number r.head) (record_vlen r) s.flag (kind_below r.head) (vlen_below r.head r.items few) flag_low
@@ -110,7 +110,7 @@ module _ (strings f : List ℕ) (r : TypeRecord) (few : length r.items < 2 ^ 16)
 
   -- the flag of other kinds is part of the value
   pub info_of_others : is_struct (kind f) ≡ false → info_word f ≡ record_info r
-  info_of_others other = kept_flag (other_flag r.head s.flag (has_bit_fields r) s.flag_spells (ap is_struct (sym kind_same) ∙ other))
+  info_of_others other = kept_flag (other_flag r.head s.flag (has_bit_fields r) s.flag_encodes (ap is_struct (sym kind_same) ∙ other))
 
   pub info_unmarked : flag f ≡ 0 → has_bit_fields r ≡ false → info_word f ≡ record_info r
   info_unmarked none plain = grind arith
@@ -171,14 +171,14 @@ entry_read IsFuncProto name flag a b c none = absurd cc
 entry_read IsEnum64 name flag a b c none = absurd cc
 entry_read known name flag a b c none = tt
 
-entries_words : (place : List ℕ → ℕ) (strings : List ℕ) (flag : ℕ) (xs : List TypeItem) (wss : List (List ℕ)) → All IsEntry xs → AllZip (ItemSpells strings flag) xs wss
+entries_words : (place : List ℕ → ℕ) (strings : List ℕ) (flag : ℕ) (xs : List TypeItem) (wss : List (List ℕ)) → All IsEntry xs → AllZip (ItemEncodes strings flag) xs wss
     → concat wss ≡ flat_map (words_of place) xs
 entries_words place strings flag [] [] is s = refl
 entries_words place strings flag [] (ws ∷ wss) is s = absurd s
 entries_words place strings flag (x ∷ xs) [] is s = absurd s
 entries_words place strings flag (x ∷ xs) (ws ∷ wss) is s = grind (arith, All-head, (entries_words place strings flag xs wss (All-tail IsEntry x xs is) s.1))
 
-pub rest_words : (place : List ℕ → ℕ) (strings f : List ℕ) → IsFrame f → Spells strings (record_of strings f) f → has_item_names (kind f) ≡ false
+pub rest_words : (place : List ℕ → ℕ) (strings f : List ℕ) → IsFrame f → Encodes strings (record_of strings f) f → has_item_names (kind f) ≡ false
     → drop 3 f ≡ record_tail place (record_of strings f)
 rest_words place strings f frame s none =
     let r = record_of strings f in
@@ -204,7 +204,7 @@ pub items_are_tail : (place : List ℕ → ℕ) (strings f : List ℕ) → IsFra
 items_are_tail place strings f frame has = grind (arith, no_tail, known)
 
 -- the first three words, and what follows them
-pub record_pushed : (o : Order) (old : List ℕ) (place : List ℕ → ℕ) (strings f : List ℕ) (at info third : ℕ) → HasNulEnds strings → Spells strings (record_of strings f) f
+pub record_pushed : (o : Order) (old : List ℕ) (place : List ℕ → ℕ) (strings f : List ℕ) (at info third : ℕ) → HasNulEnds strings → Encodes strings (record_of strings f) f
     → at ≡ place (text_from strings (name_word f)) → info ≡ record_info (record_of strings f) → third ≡ third_word f
     → (old ++ bytes_of o (at ∷ info ∷ third ∷ [])) ++ bytes_of o (record_tail place (record_of strings f)) ≡ old ++ bytes_of o (record_words place (record_of strings f))
 record_pushed o old place strings f at info third ends s ate ie te =

@@ -4,7 +4,7 @@ use Rattle.std.specs.List.{All, Contains}
 use Rattle.std.proofs.lemmas.List.Elements.{All-from_get_or}
 use Rattle.bpf_words.specs.declared.Order.{Order}
 use Rattle.btf_raw.specs.{Header.header, Header.TYPES_LIMIT, Header.STRINGS_LIMIT, Frames.section_of}
-use Rattle.btf_types.specs.{Values.TypeRecord, Good.facts, Sections.SectionWords, Sections.records_in, tables.TableInvariant.IsTable}
+use Rattle.btf_types.specs.{Values.TypeRecord, Valid.facts, Sections.SectionWords, Sections.records_in, tables.TableInvariant.IsTable}
 use Rattle.btf_types.specs.{Names.names, Names.kept, Names.table_of, Reading.text_from}
 use Rattle.btf_types.specs.strings.SharedNames.{hosts_of, shared_among, shared_table, shared_place}
 use Rattle.btf_types.proofs.Members.{Has-get_or}
@@ -29,13 +29,13 @@ module _ (s : SectionWords) (table : IsTable s) where
   -- canonical records have the same length
   pub types_same : (from to : Order) (types : List ℕ) → types ≡ section_of from s.frames → length types ≡ length (canonical_types to its)
   types_same from to types whole =
-      ap length whole ∙ types_size from s.strings (facts its) its s.frames table.good.each table.spelled ∙ sym (canonical_size to its table.good)
+      ap length whole ∙ types_size from s.strings (facts its) its s.frames table.valid.each table.encoded ∙ sym (canonical_size to its table.valid)
 
   pub types_low : (from : Order) (types : List ℕ) → types ≡ section_of from s.frames → length types ≤ TYPES_LIMIT
-  types_low from types whole = omega (arith, types_same from from types whole, canonical_size from its table.good, table.good.size)
+  types_low from types whole = omega (arith, types_same from from types whole, canonical_size from its table.valid, table.valid.size)
 
   pub table_low : (xs : List (List ℕ)) → kept xs ≡ kept (names its) → length (shared_table xs) ≤ STRINGS_LIMIT
-  table_low xs same = omega (arith, ap (λ ks. length (table_of (hosts_of ks))) same, table.good.texts)
+  table_low xs same = omega (arith, ap (λ ks. length (table_of (hosts_of ks))) same, table.valid.texts)
 
   pub sections_written : (from to : Order) (types : List ℕ) (xs : List (List ℕ)) (front more whole : List ℕ) (t u : ℕ) → types ≡ section_of from s.frames → kept xs ≡ kept (names its)
       → t ≡ length types → u ≡ length (shared_table xs) → front ≡ header to 24 0 t t u

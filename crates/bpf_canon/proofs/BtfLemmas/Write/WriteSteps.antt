@@ -8,8 +8,8 @@ use Rattle.btf_raw.specs.{Header.header, Header.TYPES_LIMIT, Frames.bytes_of, Fr
 use Rattle.btf_types.specs.Values.{TypeItem, TypeRecord}
 use Rattle.btf_types.specs.{Names.names, Names.kept, Names.table_of}
 use Rattle.btf_types.specs.strings.SharedNames.{hosts_of, shared_among}
-use Rattle.btf_types.specs.{Spelling.head_third, tables.TableWords.record_at, tables.TableWords.no_record}
-use Rattle.btf_types.specs.Good.{has_width, has_bit_fields, IsGoodRecord, IsGood, facts}
+use Rattle.btf_types.specs.{Encoding.head_third, tables.TableWords.record_at, tables.TableWords.no_record}
+use Rattle.btf_types.specs.Valid.{has_width, has_bit_fields, IsValidRecord, IsValid, facts}
 use Rattle.btf_types.proofs.Members.{Has, any_from_Has}
 use Rattle.bpf_canon.specs.btf.write.BtfWords.{head_words, MemberFits}
 use Rattle.bpf_canon.specs.btf.CanonicalBtf.{canonical, canonical_types, words_of_item, record_words}
@@ -42,10 +42,10 @@ section_pushed o place v i h = grind (arith, records_more, map-append, flat_map-
 
 -- ---- what is known of a record of a table
 
-pub record_good : (v : List TypeRecord) (id : ℕ) → IsGood v → 0 < id → id ≤ length v → IsGoodRecord (facts v) (record_at v id)
-record_good v id good some low =
+pub record_valid : (v : List TypeRecord) (id : ℕ) → IsValid v → 0 < id → id ≤ length v → IsValidRecord (facts v) (record_at v id)
+record_valid v id valid some low =
     let inside : id - 1 < length v = omega arith in
-    subst (IsGoodRecord (facts v)) (get_is v (id - 1) no_record inside) (good.each (id - 1) no_record inside)
+    subst (IsValidRecord (facts v)) (get_is v (id - 1) no_record inside) (valid.each (id - 1) no_record inside)
 
 item_in : (xs : List TypeItem) (k : ℕ) (x : TypeItem) → slice_get xs k ≡ Some x → Has xs x
 item_in [] k x e = absurd cc
@@ -62,21 +62,21 @@ width_missed xs k x e none before =
     let more : take (k + 1) xs ≡ take k xs ++ x ∷ [] = rw next (take_more xs k x e) in
     ap (list_any has_width) more ∙ list_any-append has_width (take k xs) (x ∷ []) ∙ rw (before, none) refl
 
-pub item_fits : (v : List TypeRecord) (id k : ℕ) (x : TypeItem) → IsGood v → 0 < id → id ≤ length v → slice_get (record_at v id).items k ≡ Some x → MemberFits x
-item_fits v id k x good some low e =
+pub item_fits : (v : List TypeRecord) (id k : ℕ) (x : TypeItem) → IsValid v → 0 < id → id ≤ length v → slice_get (record_at v id).items k ≡ Some x → MemberFits x
+item_fits v id k x valid some low e =
     let r = record_at v id in
-    let right = record_good v id good some low in
+    let right = record_valid v id valid some low in
     let at = get_or_is r.items k x x e in
     let size = head_third r.head in
     grind (arith, common_steps)
 
 -- ---- the file
 
-pub types_fit : (o : Order) (v : List TypeRecord) (ks : List (List ℕ)) (types : List ℕ) → IsGood v → ks ≡ kept (names v)
+pub types_fit : (o : Order) (v : List TypeRecord) (ks : List (List ℕ)) (types : List ℕ) → IsValid v → ks ≡ kept (names v)
     → types ≡ section_of o (map (record_words (shared_among ks)) v) → length types ≤ TYPES_LIMIT
-types_fit o v ks types good ke te =
+types_fit o v ks types valid ke te =
     let same : types ≡ canonical_types o v = te ∙ ap (λ (l : List (List ℕ)). section_of o (map (record_words (shared_among l)) v)) ke in
-    omega (arith, ap length same, canonical_size o v good, good.size)
+    omega (arith, ap length same, canonical_size o v valid, valid.size)
 
 abbrev types_with : Order → List TypeRecord → List (List ℕ) → List ℕ
 types_with o v ks = section_of o (map (record_words (shared_among ks)) v)

@@ -1,4 +1,3 @@
--- Only private contracts cite this file.
 -- The contents of maps and sets of borrowed strings.
 use Rattle.std.specs.Prelude.{◌≡◌, ◌⊎◌, ◌<◌, ◌^◌, ℕ, List, [], ◌∷◌, ◌++◌, length, map, slice_index, slice_index_or}
 use Rattle.std.specs.{Borrow.Bor, List.All, List.Contains, List.Sorted.IsPermutation, List.Sorted.IsSorted}

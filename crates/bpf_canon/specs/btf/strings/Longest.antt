@@ -1,4 +1,3 @@
--- Only private contracts cite this file.
 -- The longest used strings of a section.
 use Rattle.std.specs.Prelude.{◌≡◌, ◌≢◌, ℕ, ◌<◌, ◌≤◌, List, length, slice_index}
 use Rattle.std.specs.List.{All, Any}

@@ -1,4 +1,3 @@
--- Only private contracts cite this file.
 -- Numbers of sorted strings: the common suffixes of adjacent ones, and the ranks that follow from them.
 use Rattle.std.specs.Prelude.{◌≡◌, ℕ, zero, suc, ◌<◌, ◌≤◌, List, length, slice_index}
 use Rattle.btf_types.specs.strings.{CommonTails.common_tail, CommonTails.at_rank, CommonTails.IsNextHost, SharedNames.tail_cmp}

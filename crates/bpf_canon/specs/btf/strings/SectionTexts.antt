@@ -1,4 +1,3 @@
--- Only private contracts cite this file.
 -- Strings of a section with keys, and their order.
 use Rattle.std.specs.Prelude.{◌≡◌, ℕ, ◌-◌, min, List, length, map, take, drop}
 use Rattle.std.specs.{Ordering.nat_cmp, Ordering.on, Ordering.then_cmp, declared.cmp.Ordering.Ordering}

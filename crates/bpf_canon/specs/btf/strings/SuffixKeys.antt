@@ -1,4 +1,3 @@
--- Only private contracts cite this file.
 -- The last bytes of a string as a number.
 use Rattle.std.specs.Prelude.{◌≡◌, ℕ, zero, suc, ◌+◌, ◌-◌, ◌*◌, ◌^◌, List, [], ◌∷◌, reverse, slice_index}
 use Rattle.std.specs.Int.{w64, to_le_bytes}

@@ -1,9 +1,8 @@
--- Only private contracts cite this file.
 -- The 32-bit words that encode the parts of a record.
 use Rattle.std.specs.Prelude.{◌≡◌, ◌⊎◌, ℕ, ◌^◌, ◌<◌, Bool, List, ◌∷◌, ⊤}
 use Rattle.btf_types.specs.{Values.TypeHead, Values.KFunc, Values.TypeItem, Values.Member, Names.head_name}
-use Rattle.btf_types.specs.{Values.TypeRecord, Good.has_bit_fields}
-use Rattle.btf_types.specs.Spelling.{kind_number, head_third, linkage_number, head_tail, record_vlen, info}
+use Rattle.btf_types.specs.{Values.TypeRecord, Valid.has_bit_fields}
+use Rattle.btf_types.specs.Encoding.{kind_number, head_third, linkage_number, head_tail, record_vlen, info}
 use Rattle.bpf_canon.specs.btf.CanonicalBtf.{canonical_flag}
 
 -- vlen of the header of a record with n items

@@ -3,7 +3,7 @@
 //! table, in the order of first use.
 //!
 //! All offsets are computed before the first record is written, because the host of its name may be
-//! used last. The table is never longer than the section (law `spelled_table_fits` of `btf_types`),
+//! used last. The table is never longer than the section (law `encoded_table_fits` of `btf_types`),
 //! so an offset in it fits into a name_off.
 
 ghost use Rattle.std.specs.Prelude.{◌≡◌, ◌<◌, ◌≤◌, ◌^◌, ◌++◌, length, map, IfOk, OnOk};

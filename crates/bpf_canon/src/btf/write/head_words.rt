@@ -3,7 +3,7 @@
 ghost use Rattle.std.specs.Prelude.{◌≡◌, ◌<◌, ◌^◌, ◌++◌, OnOk};
 ghost use Rattle.btf_raw.specs.Header.{header};
 ghost use Rattle.btf_types.specs.Values.{head_value};
-ghost use Rattle.btf_types.specs.Spelling as spec;
+ghost use Rattle.btf_types.specs.Encoding as spec;
 ghost use Rattle.bpf_canon.specs.btf.CanonicalBtf.{canonical_flag};
 ghost use Rattle.bpf_canon.specs.btf.write.BtfWords as heads;
 

@@ -8,13 +8,13 @@
 ghost use Rattle.std.specs.Prelude.{◌≡◌, ◌<◌, ◌≤◌, ◌^◌, ◌++◌, IfOk, OnOk, length};
 ghost use Rattle.btf_raw.specs.Frames.{bytes_of};
 ghost use Rattle.btf_types.specs.Values.{head_value, item_value};
-ghost use Rattle.btf_types.specs.{Names.kept, strings.SharedNames.shared_among, Spelling.head_tail};
-ghost use Rattle.btf_types.specs.{Good.IsGood, Denotes.Denotes, tables.TableWords.record_at};
+ghost use Rattle.btf_types.specs.{Names.kept, strings.SharedNames.shared_among, Encoding.head_tail};
+ghost use Rattle.btf_types.specs.{Valid.IsValid, Denotes.Denotes, tables.TableWords.record_at};
 ghost use Rattle.bpf_canon.specs.btf.names.Interned.{IsPlaced};
 ghost use Rattle.bpf_canon.specs.btf.write.BtfWords.{head_words, MemberFits};
 ghost use Rattle.bpf_canon.specs.btf.CanonicalBtf.{canonical, words_of_item, record_words};
 ghost use Rattle.btf_types.specs.Names as spec;
-ghost use Rattle.btf_types.specs.Good as good;
+ghost use Rattle.btf_types.specs.Valid as valid;
 
 use crate::btf::names::{SharedNames, kept_names};
 use crate::btf::write::head_words::{head_third, head_vlen, kind_flag, push_header};
@@ -108,7 +108,7 @@ fn push_item<A: Allocator, B: Allocator + Copy>(
 fn has_bit_fields<T: TypeTable>(table: &T, id: u32) -> bool
     requires first { 0 < id }
     requires last { id ≤ length (T.meaning table.now) }
-    ensures { result ≡ good.has_bit_fields (record_at (T.meaning table.now) id) }
+    ensures { result ≡ valid.has_bit_fields (record_at (T.meaning table.now) id) }
 {
     for k in 0..table.item_count(id) {
         if matches!(table.item(id, k), Item::Member { width, .. } if width != 0) {
@@ -129,7 +129,7 @@ fn push_table_record<T: TypeTable, A: Allocator, B: Allocator + Copy>(
 ) -> Result<(), AllocError>
     requires first { 0 < id }
     requires last { id ≤ length (T.meaning table.now) }
-    requires good { IsGood (T.meaning table.now) }
+    requires valid { IsValid (T.meaning table.now) }
     requires kept { names.now ≡ kept (spec.names (T.meaning table.now)) }
     ensures { OnOk result (out.new.items
         ≡ out.old.items ++ bytes_of order (record_words (shared_among names.now)
@@ -152,7 +152,7 @@ fn write_named<T: TypeTable, A: Allocator + Copy>(
     names: &SharedNames<'_, A>,
     table: &T,
 ) -> Result<Vec<u8, A>, AllocError>
-    requires good { IsGood (T.meaning table.now) }
+    requires valid { IsValid (T.meaning table.now) }
     requires kept { names.now ≡ kept (spec.names (T.meaning table.now)) }
     ensures { IfOk result (λ bytes. bytes.items ≡ canonical order (T.meaning table.now)) }
 {

@@ -1,7 +1,7 @@
 use Rattle.std.proofs.Common.{◌≡◌, ◌∙◌, sym, refl, ap, rules, w32, pos, None}
 use Rattle.std.proofs.lemmas.Int.{to_z-of_z}
 use Rattle.bpf_words.specs.Slots.{Fields, fields}
-use Rattle.bpf_words.proofs.OneSpelling.{same_fields}
+use Rattle.bpf_words.proofs.OneEncoding.{same_fields}
 use Rattle.bpf_insn.specs.declared.insn.{Insn.TheVariants.Wide, Reg.Reg}
 use Rattle.bpf_insn.specs.declared.form.Form.TheVariants as form
 use Rattle.bpf_insn.specs.Forms.{AllowsFields}
@@ -20,6 +20,6 @@ returns c = λ reported.
     sym c.slot-2.view_is ∙ same_fields _ _ opcode refl refl allowed.2 refl in
     let ends = rw (to_z-of_z w32 c.slot-2.inside.imm fit.imm) at c.read_wide.ensures in
     let wide = value_if_ok _ _ _ ends (rw c.is_ok.ensures.value at reported) in
-    let two = read_two c.args.order c.args.bytes.now _ _ c.slot_of-slot.result c.in-Some.ensures.cases.0 c.in-Some.ensures.cases.1 c.slot_of-slot.ensures.spelled
+    let two = read_two c.args.order c.args.bytes.now _ _ c.slot_of-slot.result c.in-Some.ensures.cases.0 c.in-Some.ensures.cases.1 c.slot_of-slot.ensures.encoded
     dst c.slot-2.inside.src c.slot-2.inside.imm (Wide dst wide.0) 16 (allowed.1, fit.imm, same) (wide.1 dst) refl in
     (Wide dst wide.0, (two.0, sym two.1))

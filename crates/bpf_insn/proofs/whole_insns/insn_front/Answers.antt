@@ -7,7 +7,7 @@ pub overflow_add-count-in-Ok : goal.overflow_add-count-in-Ok
 overflow_add-count-in-Ok c =
     let found = c.in-Ok.ensures.found in
     let read = reads_other_and_plain _ _ _ _ _ _ _ c.loop-len.invariant found.1 c.plain_len-plain.ensures in
-    omega (arith, read.spelled.0, count_below _ _ _ _ read)
+    omega (arith, read.encoded.0, count_below _ _ _ _ read)
 
 pub loop-len-preserved : goal.loop-len-preserved
 loop-len-preserved c =

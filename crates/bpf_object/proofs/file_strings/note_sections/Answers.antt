@@ -7,6 +7,6 @@ use Rattle.bpf_object.proofs.file_strings.note_sections.Goals as goal
 pub loop-i-preserved : goal.loop-i-preserved
 loop-i-preserved g c =
     let b = c.args.elf.now in (
-      c.note_section.ensures.strings ∙ c.loop-i.invariant.0,
-      noted_more _ _ _ (is_kept_section b) (name_off b) c.loop-i.i c.loop-i.invariant.1 c.in_ok-note_section.ensures.offsets,
+      c.note_if.ensures.strings ∙ c.loop-i.invariant.0,
+      noted_more _ _ _ (is_kept_section b) (name_off b) c.loop-i.i _ _ c.loop-i.invariant.1 c.section.ensures.fields.name_offset c.is_kept_section.ensures c.in_ok-note_if.ensures.offsets,
     )

@@ -6,5 +6,6 @@ pub returns-clause-offsets : goal.returns-clause-offsets
 returns-clause-offsets g c =
     let b = c.args.elf.now in
     all_noted _ _ _ _ _ _ (section_offsets b) (types_offsets b c.args.has_types c.args.has_extension) (symbol_offsets b) _ _
-    c.in_ok-note_sections.ensures.offsets c.in_ok-note_types.ensures.offsets c.in_ok-note_own.ensures.offsets c.in_ok-note_own-2.ensures.offsets
+    c.in_ok-note_sections.ensures.offsets c.in_ok-note_types.ensures.offsets (rw c.own_off.ensures.value at c.in_ok-note.ensures.offsets)
+    (rw c.own_off-2.ensures.value at c.in_ok-note-2.ensures.offsets)
     c.in_ok-note_symbols.ensures.offsets

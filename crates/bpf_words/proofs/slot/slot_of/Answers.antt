@@ -16,10 +16,10 @@ eight o bytes byte off imm n below r s t =
     let four = signed32 o (slice_range bytes 4 8) (omega (arith, n, length-take 4 (drop 4 bytes), length-drop 4 bytes)) (IsBytes-take 4 (drop 4 bytes) (IsBytes-drop 4 bytes below)) in
     rw (r, s, t, two, four) (grind (arith, common_steps))
 
-pub returns-in-Little-clause-spelled : goal.returns-in-Little-clause-spelled
-returns-in-Little-clause-spelled c = rw (c.in-Little.is, to_z-of_z w16 c.read_i16.result (record { sfits = c.read_i16.type_inv }), to_z-of_z w32 c.read_i32.result (record { sfits = c.read_i32.type_inv }))
+pub returns-in-Little-clause-encoded : goal.returns-in-Little-clause-encoded
+returns-in-Little-clause-encoded c = rw (c.in-Little.is, to_z-of_z w16 c.read_i16.result (record { sfits = c.read_i16.type_inv }), to_z-of_z w32 c.read_i32.result (record { sfits = c.read_i32.type_inv }))
     (eight Little c.args.bytes.now _ _ _ c.told-bytes c.fits-bytes (omega arith) (c.read_i16.ensures ∙ ap (cast_signed w16) (omega arith)) (c.read_i32.ensures ∙ ap (cast_signed w32) (omega arith)))
 
-pub returns-in-Big-clause-spelled : goal.returns-in-Big-clause-spelled
-returns-in-Big-clause-spelled c = rw (c.in-Big.is, to_z-of_z w16 c.read_i16-in-Big.result (record { sfits = c.read_i16-in-Big.type_inv }), to_z-of_z w32 c.read_i32-in-Big.result (record { sfits = c.read_i32-in-Big.type_inv }))
+pub returns-in-Big-clause-encoded : goal.returns-in-Big-clause-encoded
+returns-in-Big-clause-encoded c = rw (c.in-Big.is, to_z-of_z w16 c.read_i16-in-Big.result (record { sfits = c.read_i16-in-Big.type_inv }), to_z-of_z w32 c.read_i32-in-Big.result (record { sfits = c.read_i32-in-Big.type_inv }))
     (eight Big c.args.bytes.now _ _ _ c.told-bytes c.fits-bytes (omega arith) (c.read_i16-in-Big.ensures ∙ ap (cast_signed w16) (omega arith)) (c.read_i32-in-Big.ensures ∙ ap (cast_signed w32) (omega arith)))

@@ -1,5 +1,5 @@
 use Rattle.std.proofs.Common.{take}
-use Rattle.bpf_insn.specs.Spelling.{InsnFile}
+use Rattle.bpf_insn.specs.Encoding.{InsnFile}
 use Rattle.bpf_canon.proofs.insn.canon.write_insns.Given as goal
 
 abbrev pub invariant-loop-insn : goal.invariant-loop-insn

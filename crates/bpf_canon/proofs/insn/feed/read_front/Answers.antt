@@ -1,6 +1,6 @@
 use Rattle.std.proofs.Common.{rules, arith, ◌≡◌, ◌≢◌, ◌∙◌, ◌++◌, ℕ, List, [], length, take, ap, sym, subst}
 use Rattle.std.proofs.lemmas.List.{length-take}
-use Rattle.bpf_insn.specs.Spelling.{InsnFile}
+use Rattle.bpf_insn.specs.Encoding.{InsnFile}
 use Rattle.bpf_canon.proofs.InsnLemmas.FrontLaws.{length-file_same}
 use Rattle.bpf_canon.proofs.InsnLemmas.ReadingLemmas.{front_recoded}
 use Rattle.bpf_canon.proofs.InsnLemmas.Recoding.{appended_part, appended_in_place, file_slots, slots_file, slots_of_file}

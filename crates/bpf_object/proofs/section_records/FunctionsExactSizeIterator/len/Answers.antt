@@ -7,4 +7,4 @@ use Rattle.bpf_object.proofs.section_records.FunctionsExactSizeIterator.len.Goal
 pub returns-clause-value : goal.returns-clause-value
 returns-clause-value c =
     let i = c.self.inside in
-    c.len.ensures.value ∙ sym (length_left function_at parts.Functions i.group i.left.start i.left.end c.self.invariant) ∙ ap length c.self.view_is
+    c.len.ensures.value ∙ sym (length_left function_at parts.Functions i.group i.functions.start i.functions.end c.self.invariant) ∙ ap length c.self.view_is

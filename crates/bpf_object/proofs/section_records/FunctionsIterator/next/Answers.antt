@@ -10,7 +10,7 @@ pub returns-clause-steps : goal.returns-clause-steps
 returns-clause-steps c =
     let i = c.self.inside in
     sym c.self.view_is
-    ∙ next_left function_at parts.Functions i.group c.in_ok-group.group i.left.start i.left.end c.in_ok-k.k c.next.new.self.start c.next.new.self.end
+    ∙ next_left function_at parts.Functions i.group c.in_ok-group.group i.functions.start i.functions.end c.in_ok-k.k c.next.new.self.start c.next.new.self.end
     (spec.function_value c.function_record.result) c.self.invariant c.in_ok-group.was c.in_ok-k.ensures.steps c.function_record.ensures
 
 pub returns-clause-goes : goal.returns-clause-goes

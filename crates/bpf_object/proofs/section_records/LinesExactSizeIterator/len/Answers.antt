@@ -7,4 +7,4 @@ use Rattle.bpf_object.proofs.section_records.LinesExactSizeIterator.len.Goals as
 pub returns-clause-value : goal.returns-clause-value
 returns-clause-value c =
     let i = c.self.inside in
-    c.len.ensures.value ∙ sym (length_left numbered_line_at parts.Lines i.group i.left.start i.left.end c.self.invariant) ∙ ap length c.self.view_is
+    c.len.ensures.value ∙ sym (length_left numbered_line_at parts.Lines i.group i.lines.start i.lines.end c.self.invariant) ∙ ap length c.self.view_is

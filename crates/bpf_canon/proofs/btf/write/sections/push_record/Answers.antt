@@ -25,7 +25,7 @@ front g c =
     let at : c.place-name.result ≡ place (text_from strings (name_word f)) = c.place-name.ensures ∙ ap (λ (w : ℕ). place (text_from strings w)) c.word.ensures in
     ap (λ (t : List ℕ). t ++ bytes_of c.args.to (record_tail place (record_of strings f))) c.in_ok-push_words.ensures.ok
     ∙ record_pushed c.args.to c.args.out.now.items place strings f c.place-name.result c.canonical_info-info.result c.word-2.result
-    c.requires.reads.ends c.requires.reads.spelled at (c.canonical_info-info.ensures strings c.requires.reads) c.word-2.ensures
+    c.requires.reads.ends c.requires.reads.encoded at (c.canonical_info-info.ensures strings c.requires.reads) c.word-2.ensures
 
 named_is : (b : Bool) → not b ≡ false → b ≡ true
 named_is true e = refl
@@ -56,7 +56,7 @@ returns-then-not-item g c =
     let place = g.N.NamePlaces.place_of c.args.names.now in
     let none : has_item_names (kind f) ≡ false = named_by_row c.args.this.now c.kind-kind.result c.layout_of.result c.layout_of.ensures.row c.kind-kind.ensures ∙ nameless_is _ c.if-not-item.true in
     on_ok_weaker c.push_rest.result
-    (λ e. e ∙ ap (λ (t : List ℕ). c.push_words.new.out.items ++ bytes_of c.args.to t) (rest_words place strings f c.requires.reads.frame c.requires.reads.spelled none)
+    (λ e. e ∙ ap (λ (t : List ℕ). c.push_words.new.out.items ++ bytes_of c.args.to t) (rest_words place strings f c.requires.reads.frame c.requires.reads.encoded none)
     ∙ front g (goal.at.returns-then-not-item g c).After-kind-kind)
     c.push_rest.ensures
 

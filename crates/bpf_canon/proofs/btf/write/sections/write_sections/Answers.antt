@@ -38,5 +38,5 @@ returns-clause-form g c = canonical_bytes g (goal.at.returns-clause-form g c).In
 
 pub returns-clause-accepted : goal.returns-clause-accepted
 returns-clause-accepted g c =
-    canonical_is_file c.args.to (records_in c.args.sections.now) c.push_table.new.out.items c.types-types_len.ensures.table.good
+    canonical_is_file c.args.to (records_in c.args.sections.now) c.push_table.new.out.items c.types-types_len.ensures.table.valid
     (canonical_bytes g (goal.at.returns-clause-accepted g c).In_ok-push_table)

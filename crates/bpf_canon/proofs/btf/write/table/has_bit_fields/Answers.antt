@@ -1,5 +1,5 @@
 use Rattle.std.proofs.Common.{◌≡◌, false, arith, rules}
-use Rattle.btf_types.specs.{Values.item_value, Good.has_width, tables.TableWords.record_at}
+use Rattle.btf_types.specs.{Values.item_value, Valid.has_width, tables.TableWords.record_at}
 use Rattle.bpf_canon.proofs.BtfLemmas.Write.WriteSteps.{width_missed}
 use Rattle.bpf_canon.proofs.btf.write.table.has_bit_fields.Goals.{in-Member, in_default-2, in_default}
 use Rattle.bpf_canon.proofs.btf.write.table.has_bit_fields.Goals as goal

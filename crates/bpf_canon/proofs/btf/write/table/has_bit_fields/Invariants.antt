@@ -1,6 +1,6 @@
 use Rattle.std.proofs.Common.{◌≡◌, false, take}
 use Rattle.std.specs.List.{list_any}
-use Rattle.btf_types.specs.{Good.has_width, tables.TableWords.record_at}
+use Rattle.btf_types.specs.{Valid.has_width, tables.TableWords.record_at}
 use Rattle.bpf_canon.proofs.btf.write.table.has_bit_fields.Given as goal
 
 abbrev pub invariant-loop-k : goal.invariant-loop-k

@@ -2,7 +2,7 @@ use Rattle.std.proofs.Common.{◌≡◌, ℕ, ◌+◌, ◌*◌, ◌%◌, ◌^◌
 use Rattle.std.proofs.lemmas.Result.{on_ok_weaker}
 use Rattle.btf_raw.specs.Frames.{bytes_of}
 use Rattle.btf_types.specs.{Values.head_value, Names.head_name, strings.SharedNames.shared_among}
-use Rattle.btf_types.specs.Spelling.{kind_number, head_third, head_tail, info}
+use Rattle.btf_types.specs.Encoding.{kind_number, head_third, head_tail, info}
 use Rattle.bpf_canon.specs.btf.{write.BtfWords.head_vlen, CanonicalBtf.canonical_flag}
 use Rattle.bpf_canon.proofs.BtfLemmas.Write.WriteSteps.{pushed_two}
 use Rattle.bpf_canon.proofs.btf.write.table.push_head.Goals as goal

@@ -1,7 +1,7 @@
 use Rattle.std.proofs.Common.{◌≡◌, ◌++◌, length, take}
 use Rattle.std.specs.List.{flat_map}
 use Rattle.btf_raw.specs.Frames.{bytes_of}
-use Rattle.btf_types.specs.{strings.SharedNames.shared_among, Good.has_bit_fields, tables.TableWords.record_at}
+use Rattle.btf_types.specs.{strings.SharedNames.shared_among, Valid.has_bit_fields, tables.TableWords.record_at}
 use Rattle.bpf_canon.specs.btf.{write.BtfWords.head_words, CanonicalBtf.words_of_item}
 use Rattle.bpf_canon.proofs.btf.write.table.push_table_record.Given as goal
 

@@ -20,7 +20,7 @@ overflow_cast-len g c =
     let v = g.T.TypeTable.meaning c.args.table.now in
     let all : c.loop-index.types.items ≡ canonical_types c.args.order v =
     c.loop-index.invariant ∙ ap (λ (l : List TypeRecord). section_of c.args.order (map (record_words (shared_among (kept (names v)))) l)) (take_all c.loop-index.index v (omega arith)) in
-    omega (arith, c.len.ensures, types_fit c.args.order v (kept (names v)) c.loop-index.types.items c.requires.good refl all)
+    omega (arith, c.len.ensures, types_fit c.args.order v (kept (names v)) c.loop-index.types.items c.requires.valid refl all)
 
 pub returns : goal.returns
 returns g c =

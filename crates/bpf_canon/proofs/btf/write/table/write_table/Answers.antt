@@ -11,4 +11,4 @@ write_named-requires-clause-kept g c = c.in_ok-names.ensures ∙ c.in_ok-kept.en
 
 pub returns-clause-accepted : goal.returns-clause-accepted
 returns-clause-accepted g c =
-    ok_with _ _ (λ bytes e. canonical_is_file c.args.order (g.T.TypeTable.meaning c.args.table.now) bytes.items c.in_ok-kept.ensures.good e) c.write_named.result c.write_named.ensures
+    ok_with _ _ (λ bytes e. canonical_is_file c.args.order (g.T.TypeTable.meaning c.args.table.now) bytes.items c.in_ok-kept.ensures.valid e) c.write_named.result c.write_named.ensures

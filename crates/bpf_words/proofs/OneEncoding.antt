@@ -4,7 +4,7 @@ use Rattle.std.specs.Int.{w16, w32, cast_unsigned, cast_signed, from_le_bytes, f
 use Rattle.std.proofs.lemmas.Nat.{from_le_bytes-to_le_bytes_2, from_be_bytes-to_be_bytes_2, from_le_bytes-to_le_bytes_4, from_be_bytes-to_be_bytes_4}
 use Rattle.std.proofs.lemmas.Int.{ints, to_z-of_z}
 use Rattle.bpf_words.specs.declared.Order.{Order, TheVariants.Little, TheVariants.Big}
-use Rattle.bpf_words.specs.{Words.word16, Words.word32, Slots.Fields, Slots.AreFields, Slots.fields, Slots.spelled, Slots.register_byte}
+use Rattle.bpf_words.specs.{Words.word16, Words.word32, Slots.Fields, Slots.AreFields, Slots.fields, Slots.encoded, Slots.register_byte}
 
 pub word-injective_16 : (order : Order) (m n : ℕ) → m < 2 ^ 16 → n < 2 ^ 16 → word16 order m ≡ word16 order n → m ≡ n
 word-injective_16 Little m n p q e = sym (from_le_bytes-to_le_bytes_2 m p) ∙ ap (from_le_bytes w16) e ∙ from_le_bytes-to_le_bytes_2 n q
@@ -32,11 +32,11 @@ registers_apart Little d s d' s' a b a' b' e = (omega arith, omega arith)
 registers_apart Big d s d' s' a b a' b' e = (omega arith, omega arith)
 
 -- the offset and the immediate of a slot
-off_bytes : (order : Order) (f : Fields) → slice_range (spelled order f) 2 4 ≡ word16 order (cast_unsigned w16 f.off)
+off_bytes : (order : Order) (f : Fields) → slice_range (encoded order f) 2 4 ≡ word16 order (cast_unsigned w16 f.off)
 off_bytes Little f = refl
 off_bytes Big f = refl
 
-imm_bytes : (order : Order) (f : Fields) → slice_range (spelled order f) 4 8 ≡ word32 order (cast_unsigned w32 f.imm)
+imm_bytes : (order : Order) (f : Fields) → slice_range (encoded order f) 4 8 ≡ word32 order (cast_unsigned w32 f.imm)
 imm_bytes Little f = refl
 imm_bytes Big f = refl
 
@@ -46,8 +46,8 @@ same_fields f g a b c d e =
     ∙ ap (λ (x : ℕ). fields g.opcode g.dst x f.off f.imm) c ∙ ap (λ (x : ℤ). fields g.opcode g.dst g.src x f.imm) d
     ∙ ap (λ (x : ℤ). fields g.opcode g.dst g.src g.off x) e
 
-pub spelled-injective : (order : Order) (f g : Fields) → AreFields f → AreFields g → spelled order f ≡ spelled order g → f ≡ g
-spelled-injective order f g p q e =
+pub encoded-injective : (order : Order) (f g : Fields) → AreFields f → AreFields g → encoded order f ≡ encoded order g → f ≡ g
+encoded-injective order f g p q e =
     let opcode : f.opcode ≡ g.opcode = ap (λ xs. slice_index xs 0) e in
     let byte : register_byte order f.dst f.src ≡ register_byte order g.dst g.src = ap (λ xs. slice_index xs 1) e in
     let regs = registers_apart order f.dst f.src g.dst g.src p.dst p.src q.dst q.src byte in

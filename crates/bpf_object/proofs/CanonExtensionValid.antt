@@ -19,7 +19,7 @@ use Rattle.bpf_object.specs.Lines.{name_of, insn_off, all_of, ascends, have_line
 use Rattle.bpf_object.proofs.CanonRules.{rule_holds, string_without_nul}
 use Rattle.bpf_object.proofs.KeptLemmas.{length-all, get-all}
 
--- ---- good groups
+-- ---- valid groups
 
 abbrev pub no_function : Function
 no_function = record { offset = 0; type = 0 }
@@ -32,30 +32,30 @@ abbrev pub offsets_ascend : List Function → Bool
 offsets_ascend fs = all_of (length fs) (λ k. k == 0 || nat_lt (get_or fs (k - 1) no_function).offset (get_or fs k no_function).offset)
 
 -- the section and the number of records of a group
-pub record IsGoodGroup {R : Type 0} (gr : Group R) : Type 0 where
+pub record IsValidGroup {R : Type 0} (gr : Group R) : Type 0 where
   pub section : IsWithoutNul gr.section
   pub short : length gr.section ≤ NAME_LIMIT
   pub some : 0 < length gr.records
   pub few : length gr.records < 2 ^ 32
 
-pub record IsGoodFunction (f : Function) : Type 0 where
+pub record IsValidFunction (f : Function) : Type 0 where
   pub offset : f.offset < 2 ^ 32
   pub type : f.type < 2 ^ 32
 
-pub record AreGoodFunctions (gr : Group Function) : Type 0 where
-  pub group : IsGoodGroup gr
-  pub each : (k : ℕ) → k < length gr.records → IsGoodFunction (get_or gr.records k no_function)
+pub record AreValidFunctions (gr : Group Function) : Type 0 where
+  pub group : IsValidGroup gr
+  pub each : (k : ℕ) → k < length gr.records → IsValidFunction (get_or gr.records k no_function)
   pub ascend : offsets_ascend gr.records ≡ true
 
-pub record IsGoodCore (r : CoreRelocation) : Type 0 where
+pub record IsValidCore (r : CoreRelocation) : Type 0 where
   pub offset : r.offset < 2 ^ 32
   pub type : r.type < 2 ^ 32
   pub access : IsWithoutNul r.access
   pub kind : r.kind < 2 ^ 32
 
-pub record AreGoodRelocations (gr : Group CoreRelocation) : Type 0 where
-  pub group : IsGoodGroup gr
-  pub each : (k : ℕ) → k < length gr.records → IsGoodCore (get_or gr.records k no_core_relocation)
+pub record AreValidRelocations (gr : Group CoreRelocation) : Type 0 where
+  pub group : IsValidGroup gr
+  pub each : (k : ℕ) → k < length gr.records → IsValidCore (get_or gr.records k no_core_relocation)
 
 -- ---- tests of the first numbers
 
@@ -93,8 +93,8 @@ module _ (x : Section) (bytes : IsBytes x.bytes) where
       let named = and_parts (nat_lt (group_name x g) (length x.strings)) (nat_le (length (name_of x g)) NAME_LIMIT) (rule_holds _ _ _ first.1).0 in
       record { some = ltb-true _ _ counted.1; short = leb-true _ _ named.1 }
 
-  good_group : {R : Type 0} (f : ℕ → R) (g : ℕ) → KeepsGroup g → IsGoodGroup (record { section = name_of x g; records = listed (λ k. true) f (group_count x g) })
-  good_group f g keeps =
+  valid_group : {R : Type 0} (f : ℕ → R) (g : ℕ) → KeepsGroup g → IsValidGroup (record { section = name_of x g; records = listed (λ k. true) f (group_count x g) })
+  valid_group f g keeps =
       let some = keeps.some in
       let low = word_low (g + 4) in
       record {
@@ -106,40 +106,40 @@ module _ (x : Section) (bytes : IsBytes x.bytes) where
 
   -- ---- functions
 
-  good_functions : (f l : ℕ) → AllHold (group_rules x Functions f) → is_pair x f l ≡ true → AreGoodFunctions (function_group x f)
-  good_functions f l rules pair =
+  valid_functions : (f l : ℕ) → AllHold (group_rules x Functions f) → is_pair x f l ≡ true → AreValidFunctions (function_group x f)
+  valid_functions f l rules pair =
       let count = length-all (function_at x f) (group_count x f) in
       let at : (k : ℕ) → k < length (function_group x f).records → get_or (function_group x f).records k no_function ≡ function_at x f k =
       λ k lt. get-all (function_at x f) (group_count x f) k no_function (omega (arith, lt, count)) in
       let rest = and_parts (bytes_eq (name_of x f) (name_of x l)) (ascends x Functions f && (ascends x Lines l && have_lines x f l)) pair in
       let ascend = (and_parts (ascends x Functions f) (ascends x Lines l && have_lines x f l) rest.1).0 in
       record {
-        group = good_group (function_at x f) f (group_facts Functions f rules);
+        group = valid_group (function_at x f) f (group_facts Functions f rules);
         each = λ k lt.
-            subst IsGoodFunction (sym (at k lt))
+            subst IsValidFunction (sym (at k lt))
             (record { offset = word_low (record_place Functions f k); type = word_low (record_place Functions f k + 4) });
         ascend =
             sym (ascends_is x Functions f (function_group x f).records (sym count) (λ k lt. ap (λ (h : Function). h.offset) (sym (at k lt)))) ∙ ascend;
       }
 
-  all_functions : (fs ls : List ℕ) → AllHold (groups_rules x Functions fs) → AllHold (pairs_rules x fs ls) → All AreGoodFunctions (map (function_group x) fs)
-  all_functions [] ls rules pairs = All-nil AreGoodFunctions
+  all_functions : (fs ls : List ℕ) → AllHold (groups_rules x Functions fs) → AllHold (pairs_rules x fs ls) → All AreValidFunctions (map (function_group x) fs)
+  all_functions [] ls rules pairs = All-nil AreValidFunctions
   all_functions (f ∷ fs) [] rules pairs = absurd cc
   all_functions (f ∷ fs) (l ∷ ls) rules pairs =
       let pair = rule_holds _ _ _ pairs in
-      All-cons AreGoodFunctions (function_group x f) (map (function_group x) fs)
-      (good_functions f l (first_hold (group_rules x Functions f) (groups_rules x Functions fs) rules) pair.0)
+      All-cons AreValidFunctions (function_group x f) (map (function_group x) fs)
+      (valid_functions f l (first_hold (group_rules x Functions f) (groups_rules x Functions fs) rules) pair.0)
       (all_functions fs ls (rest_hold (group_rules x Functions f) (groups_rules x Functions fs) rules) pair.1)
 
   -- ---- CO-RE relocations
 
-  good_relocations : (g : ℕ) → AllHold (group_rules x Relocations g) → AreGoodRelocations (relocation_group x g)
-  good_relocations g rules =
+  valid_relocations : (g : ℕ) → AllHold (group_rules x Relocations g) → AreValidRelocations (relocation_group x g)
+  valid_relocations g rules =
       let count = length-all (relocation_at x g) (group_count x g) in
       record {
-        group = good_group (relocation_at x g) g (group_facts Relocations g rules);
+        group = valid_group (relocation_at x g) g (group_facts Relocations g rules);
         each = λ k lt.
-            subst IsGoodCore (sym (get-all (relocation_at x g) (group_count x g) k no_core_relocation (omega (arith, lt, count))))
+            subst IsValidCore (sym (get-all (relocation_at x g) (group_count x g) k no_core_relocation (omega (arith, lt, count))))
             (record {
               offset = word_low (record_place Relocations g k);
               type = word_low (record_place Relocations g k + 4);
@@ -148,11 +148,11 @@ module _ (x : Section) (bytes : IsBytes x.bytes) where
             });
       }
 
-  all_relocations : (gs : List ℕ) → AllHold (groups_rules x Relocations gs) → All AreGoodRelocations (map (relocation_group x) gs)
-  all_relocations [] rules = All-nil AreGoodRelocations
+  all_relocations : (gs : List ℕ) → AllHold (groups_rules x Relocations gs) → All AreValidRelocations (map (relocation_group x) gs)
+  all_relocations [] rules = All-nil AreValidRelocations
   all_relocations (g ∷ gs) rules =
-      All-cons AreGoodRelocations (relocation_group x g) (map (relocation_group x) gs)
-      (good_relocations g (first_hold (group_rules x Relocations g) (groups_rules x Relocations gs) rules))
+      All-cons AreValidRelocations (relocation_group x g) (map (relocation_group x) gs)
+      (valid_relocations g (first_hold (group_rules x Relocations g) (groups_rules x Relocations gs) rules))
       (all_relocations gs (rest_hold (group_rules x Relocations g) (groups_rules x Relocations gs) rules))
 
   -- ---- the section
@@ -173,11 +173,11 @@ module _ (x : Section) (bytes : IsBytes x.bytes) where
     groups_of : (p : Part) → AllHold (part_rules x p) → AllHold (groups_rules x p (groups x p))
     groups_of p h = rest_hold (form_rules x p) (groups_rules x p (groups x p)) h
 
-    pub held_functions : All AreGoodFunctions (function_groups x)
+    pub held_functions : All AreValidFunctions (function_groups x)
     held_functions =
         all_functions (groups x Functions) (groups x Lines)
         (groups_of Functions (first_hold (part_rules x Functions) (part_rules x Lines ++ (part_rules x Relocations ++ last_rules)) after_head))
         (first_hold (pairs_rules x (groups x Functions) (groups x Lines)) (accesses_rules x (groups x Relocations)) (rest_hold (part_rules x Relocations) last_rules after_lines))
 
-    pub held_relocations : All AreGoodRelocations (relocation_groups x)
+    pub held_relocations : All AreValidRelocations (relocation_groups x)
     held_relocations = all_relocations (groups x Relocations) (groups_of Relocations (first_hold (part_rules x Relocations) last_rules after_lines))

@@ -1,4 +1,4 @@
--- A frame that spells a good record has no fault.
+-- A frame that encodes a valid record has no fault.
 use Rattle.std.proofs.Common.{◌≡◌, ◌≢◌, ◌⊎◌, ℕ, zero, suc, ◌+◌, ◌*◌, ◌/◌, ◌%◌, ◌^◌, ◌<◌, ◌≤◌, Bool, true, Some, None, List, [], ◌∷◌, length, get_or, refl, sym, ap, subst, ◌∙◌, inl, inr, lit<, lit≤, arith}
 use Rattle.std.specs.Prelude.{⊤, IsTrue, IsUtf8, slice_index, ◌==◌, not, if◌then◌else◌}
 use Rattle.std.specs.List.{All}
@@ -13,16 +13,16 @@ use Rattle.btf_types.specs.declared.values.Encoding.{Encoding, TheVariants.Plain
 use Rattle.btf_types.specs.declared.values.Linkage.{Linkage as ItsLinkage, TheVariants.LStatic, TheVariants.LGlobal, TheVariants.LExtern}
 use Rattle.btf_types.specs.Values.{TypeHead, KInt, KPtr, KArray, KStruct, KUnion, KEnum, KFwd, KTypedef, KFunc, KFuncProto, KVar, KDatasec, KDeclTag, KTypeTag, KEnum64, TypeItem, Member, EnumValue, Value64, Param, Entry, TypeRecord}
 use Rattle.btf_types.specs.Names.{head_name, item_name}
-use Rattle.btf_types.specs.Spelling.{kind_number, head_third, head_tail, linkage_number, encoding_number, MemberWord, ItemSpells, Spells, HeadInRange}
+use Rattle.btf_types.specs.Encoding.{kind_number, head_third, head_tail, linkage_number, encoding_number, MemberWord, ItemEncodes, Encodes, HeadInRange}
 use Rattle.btf_types.specs.checks.Numbers.{TypeFacts, size_fits, bits_fit, component_fits, member_fits, member_int_fits}
-use Rattle.btf_types.specs.Good as good
-use Rattle.btf_types.specs.Good.{HasNeededName, HeadIsGood, ItemOf, head_targets, item_targets, has_width, has_bit_fields, TargetIsGood, MemberIsGood, IsGoodRecord, facts_of}
+use Rattle.btf_types.specs.Valid as valid
+use Rattle.btf_types.specs.Valid.{HasNeededName, HeadIsValid, ItemOf, head_targets, item_targets, has_width, has_bit_fields, TargetIsValid, MemberIsValid, IsValidRecord, facts_of}
 use Rattle.btf_types.specs.checks.FieldFaults.{IsNameField, IsTypeField, IsMemberWord, HasBitFields, int_unused, int_encoding, int_offset, int_bits, frame_facts, WordFault}
 use Rattle.std.proofs.lemmas.Bool.{ne_eqb}
-use Rattle.btf_types.proofs.{KindCases.one_among, Spelled.vlen_from, Spelled.no_items, Members.Has-get_or, Members.any_from_Has}
+use Rattle.btf_types.proofs.{KindCases.one_among, Encoded.vlen_from, Encoded.no_items, Members.Has-get_or, Members.any_from_Has}
 use Rattle.btf_types.proofs.CheckLemmas.RoleSteps.{named_words, struct_size, datasec_size}
-use Rattle.btf_types.proofs.{Spelled.IsNumbers, Spelled.numbers, Denoting.tail_word}
-use Rattle.btf_types.proofs.SpelledItems.{nothing, ItemFits, item_fits}
+use Rattle.btf_types.proofs.{Encoded.IsNumbers, Encoded.numbers, Denoting.tail_word}
+use Rattle.btf_types.proofs.EncodedItems.{nothing, ItemFits, item_fits}
 
 -- ---- what a head says of its numbers
 
@@ -85,10 +85,10 @@ pub record IntFits (h : TypeHead) (w : ℕ) : Type 0 where
   pub unused : int_unused w ≡ 0
   pub encoding : IsTrue (one_of (0 ∷ 1 ∷ 2 ∷ 4 ∷ []) (int_encoding w))
   pub bits : IsTrue (bits_fit (head_third h) (int_bits w))
-  pub offset_is : int_offset w ≡ good.head_int_offset h
-  pub bits_is : int_bits w ≡ good.head_int_bits h
+  pub offset_is : int_offset w ≡ valid.head_int_offset h
+  pub bits_is : int_bits w ≡ valid.head_int_bits h
 
-int_fits : (types : List TypeFacts) (h : TypeHead) → kind_number h ≡ INT → HeadInRange h → HeadIsGood types h → IntFits h (get_or (head_tail h) 0 0)
+int_fits : (types : List TypeFacts) (h : TypeHead) → kind_number h ≡ INT → HeadInRange h → HeadIsValid types h → IntFits h (get_or (head_tail h) 0 0)
 int_fits types (KInt name size encoding offset bits) is range right =
     let e = encoding_named encoding in
     let w = bits + 2 ^ 16 * offset + 2 ^ 24 * encoding_number encoding in
@@ -113,7 +113,7 @@ var_word : (h : TypeHead) → kind_number h ≡ VAR → (0 < length (head_tail h
 var_word (KVar name target linkage) is = (lit< tt, linkage_named linkage)
 var_word h is = absurd (omega arith)
 
-tag_word : (types : List TypeFacts) (h : TypeHead) → kind_number h ≡ DECL_TAG → HeadIsGood types h → (0 < length (head_tail h)) × ((get_or (head_tail h) 0 0 ≡ 0xffffffff) ⊎ IsTrue (component_fits types (head_third h) (get_or (head_tail h) 0 0)))
+tag_word : (types : List TypeFacts) (h : TypeHead) → kind_number h ≡ DECL_TAG → HeadIsValid types h → (0 < length (head_tail h)) × ((get_or (head_tail h) 0 0 ≡ 0xffffffff) ⊎ IsTrue (component_fits types (head_third h) (get_or (head_tail h) 0 0)))
 tag_word types (KDeclTag name flag target None) is right = (lit< tt, inl refl)
 tag_word types (KDeclTag name flag target (Some c)) is right = (lit< tt, inr right)
 tag_word types h is right = absurd (omega arith)
@@ -123,11 +123,11 @@ count_facts : (h : TypeHead) (xs : List TypeItem) → All (ItemOf h) xs → leng
 count_facts (KFunc name linkage target) xs of = no_items (KFunc name linkage target) xs (λ x o. o) of
 count_facts h xs of = refl
 
-offset_facts : (h : TypeHead) (offset : ℕ) → (kind_number h ≡ INT → offset ≡ good.head_int_offset h) → good.head_int_offset h ≡ (if kind_number h == INT then offset else 0)
+offset_facts : (h : TypeHead) (offset : ℕ) → (kind_number h ≡ INT → offset ≡ valid.head_int_offset h) → valid.head_int_offset h ≡ (if kind_number h == INT then offset else 0)
 offset_facts (KInt name size encoding its_offset bits) offset is = sym (is refl)
 offset_facts h offset is = refl
 
-bits_facts : (h : TypeHead) (bits : ℕ) → (kind_number h ≡ INT → bits ≡ good.head_int_bits h) → good.head_int_bits h ≡ (if kind_number h == INT then bits else 0)
+bits_facts : (h : TypeHead) (bits : ℕ) → (kind_number h ≡ INT → bits ≡ valid.head_int_bits h) → valid.head_int_bits h ≡ (if kind_number h == INT then bits else 0)
 bits_facts (KInt name size encoding offset its_bits) bits is = sym (is refl)
 bits_facts h bits is = refl
 
@@ -138,7 +138,7 @@ record ItemSays (P : ℕ → Type 0) (strings : List ℕ) (k : ℕ) (x : TypeIte
   target : IsTrue (one_of (STRUCT ∷ UNION ∷ FUNC_PROTO ∷ []) k) → All P (item_targets x) → P (get_or ws 1 0)
   entry : k ≡ DATASEC → All P (item_targets x) → P (get_or ws 0 0)
 
-item_says : (P : ℕ → Type 0) (strings : List ℕ) (flag : ℕ) (h : TypeHead) (x : TypeItem) (ws : List ℕ) → ItemOf h x → ItemSpells strings flag x ws → ItemSays P strings (kind_number h) x ws
+item_says : (P : ℕ → Type 0) (strings : List ℕ) (flag : ℕ) (h : TypeHead) (x : TypeItem) (ws : List ℕ) → ItemOf h x → ItemEncodes strings flag x ws → ItemSays P strings (kind_number h) x ws
 unfolding has_item_names
 item_says P strings flag (KStruct name size) (Member n t o w) ws of s =
     record { name = λ has. rw s.4 s.2; target = λ has all. rw s.4 (All-head P t [] all); entry = λ is. absurd (omega arith) }
@@ -170,7 +170,7 @@ word_reads its_flag offset its_width word (inl p) = record { offset_is = rw p.0 
 word_reads its_flag offset its_width word (inr p) = record { offset_is = rw (p.0, p.2) (omega (arith, p.1)); width_is = rw (p.0, p.2) (omega (arith, p.1)) }
 
 member_words : (types : List TypeFacts) (size : ℕ) (bit_fields : Bool) (strings : List ℕ) (its_flag : ℕ) (n : List ℕ) (t o w : ℕ) (ws : List ℕ)
-    → ItemSpells strings its_flag (Member n t o w) ws → MemberIsGood types size bit_fields (Member n t o w) → MemberSays types size bit_fields its_flag (Member n t o w) ws
+    → ItemEncodes strings its_flag (Member n t o w) ws → MemberIsValid types size bit_fields (Member n t o w) → MemberSays types size bit_fields its_flag (Member n t o w) ws
 member_words types size bit_fields strings its_flag n t o w ws s right =
     let reads = word_reads its_flag o w s.1 s.3 in
     record {
@@ -180,14 +180,14 @@ member_words types size bit_fields strings its_flag n t o w ws s right =
     }
 
 member_says : (types : List TypeFacts) (size : ℕ) (bit_fields : Bool) (strings : List ℕ) (its_flag : ℕ) (h : TypeHead) (x : TypeItem) (ws : List ℕ)
-    → ItemOf h x → ItemSpells strings its_flag x ws → IsTrue (is_struct (kind_number h)) → MemberIsGood types size bit_fields x → MemberSays types size bit_fields its_flag x ws
-member_says types size bit_fields strings its_flag (KStruct name s) (Member n t o w) ws of spells has right = member_words types size bit_fields strings its_flag n t o w ws spells right
-member_says types size bit_fields strings its_flag (KUnion name s) (Member n t o w) ws of spells has right = member_words types size bit_fields strings its_flag n t o w ws spells right
-member_says types size bit_fields strings its_flag (KEnum name signed s) (EnumValue n v) ws of spells has right = absurd cc
-member_says types size bit_fields strings its_flag (KFuncProto target) (Param n t) ws of spells has right = absurd cc
-member_says types size bit_fields strings its_flag (KDatasec name s) (Entry a b c) ws of spells has right = absurd cc
-member_says types size bit_fields strings its_flag (KEnum64 name signed s) (Value64 n v) ws of spells has right = absurd cc
-member_says types size bit_fields strings its_flag h x ws of spells has right = absurd of
+    → ItemOf h x → ItemEncodes strings its_flag x ws → IsTrue (is_struct (kind_number h)) → MemberIsValid types size bit_fields x → MemberSays types size bit_fields its_flag x ws
+member_says types size bit_fields strings its_flag (KStruct name s) (Member n t o w) ws of encodes has right = member_words types size bit_fields strings its_flag n t o w ws encodes right
+member_says types size bit_fields strings its_flag (KUnion name s) (Member n t o w) ws of encodes has right = member_words types size bit_fields strings its_flag n t o w ws encodes right
+member_says types size bit_fields strings its_flag (KEnum name signed s) (EnumValue n v) ws of encodes has right = absurd cc
+member_says types size bit_fields strings its_flag (KFuncProto target) (Param n t) ws of encodes has right = absurd cc
+member_says types size bit_fields strings its_flag (KDatasec name s) (Entry a b c) ws of encodes has right = absurd cc
+member_says types size bit_fields strings its_flag (KEnum64 name signed s) (Value64 n v) ws of encodes has right = absurd cc
+member_says types size bit_fields strings its_flag h x ws of encodes has right = absurd of
 
 -- kinds whose records have items
 words_of_typed : (k : ℕ) → IsTrue (one_of (STRUCT ∷ UNION ∷ FUNC_PROTO ∷ []) k) → 1 < item_words k
@@ -201,7 +201,7 @@ name_inside strings offset x at past = let low = TextAt-inside strings offset x 
 name_utf8 : (strings : List ℕ) (offset : ℕ) (x text : List ℕ) → NameAt strings offset x → TextAt strings offset text → IsUtf8 text
 name_utf8 strings offset x text at other = subst (λ (t : List ℕ). IsUtf8 t) (TextAt-unique strings offset x text at.text other) at.utf8
 
-module _ (strings : List ℕ) (types : List TypeFacts) (r : TypeRecord) (f : List ℕ) (right : IsGoodRecord types r) (s : Spells strings r f) where
+module _ (strings : List ℕ) (types : List TypeFacts) (r : TypeRecord) (f : List ℕ) (right : IsValidRecord types r) (s : Encodes strings r f) where
   n : IsNumbers r f s.flag s.name_offset
   n = numbers strings types r f right s
 
@@ -218,11 +218,11 @@ module _ (strings : List ℕ) (types : List TypeFacts) (r : TypeRecord) (f : Lis
       let some = named_words (kind f) at.0 in
       let it = is_there i some at.1.0 in
       let word : slice_index f j ≡ get_or (get_or s.item_words i []) 0 0 = ap (λ (k : ℕ). slice_index f k) at.1.1 ∙ it.words 0 some in
-      (item_name (get_or r.items i nothing), rw word ((item_says (λ t. ⊤) strings (flag f) r.head (get_or r.items i nothing) (get_or s.item_words i []) it.of it.spells).name (rw n.kind at at.0)))
+      (item_name (get_or r.items i nothing), rw word ((item_says (λ t. ⊤) strings (flag f) r.head (get_or r.items i nothing) (get_or s.item_words i []) it.of it.encodes).name (rw n.kind at at.0)))
 
   -- the type at each type field
   abbrev Target : ℕ → Type 0
-  Target = TargetIsGood types (kind_number r.head)
+  Target = TargetIsValid types (kind_number r.head)
 
   field_type : (j : ℕ) → IsTypeField f j → Target (slice_index f j)
   field_type j (inl third) =
@@ -239,19 +239,19 @@ module _ (strings : List ℕ) (types : List TypeFacts) (r : TypeRecord) (f : Lis
       let some = words_of_typed (kind f) item.0 in
       let it = is_there item.1 (omega arith) item.2.0 in
       let word : slice_index f j ≡ get_or (get_or s.item_words item.1 []) 1 0 = ap (λ (k : ℕ). slice_index f k) item.2.1 ∙ it.words 1 some in
-      rw word ((item_says Target strings (flag f) r.head (get_or r.items item.1 nothing) (get_or s.item_words item.1 []) it.of it.spells).target (rw n.kind at item.0) (right.item_targets item.1 nothing it.inside))
+      rw word ((item_says Target strings (flag f) r.head (get_or r.items item.1 nothing) (get_or s.item_words item.1 []) it.of it.encodes).target (rw n.kind at item.0) (right.item_targets item.1 nothing it.inside))
   field_type j (inr (inr (inr entry))) =
       let some : 0 < item_words (kind f) = omega (arith, datasec_size (kind f) entry.0) in
       let it = is_there entry.1 some entry.2.0 in
       let word : slice_index f j ≡ get_or (get_or s.item_words entry.1 []) 0 0 = ap (λ (k : ℕ). slice_index f k) entry.2.1 ∙ it.words 0 some in
-      rw word ((item_says Target strings (flag f) r.head (get_or r.items entry.1 nothing) (get_or s.item_words entry.1 []) it.of it.spells).entry (sym n.kind ∙ entry.0) (right.item_targets entry.1 nothing it.inside))
+      rw word ((item_says Target strings (flag f) r.head (get_or r.items entry.1 nothing) (get_or s.item_words entry.1 []) it.of it.encodes).entry (sym n.kind ∙ entry.0) (right.item_targets entry.1 nothing it.inside))
 
   -- the members
   member_at : (m j : ℕ) (at : IsMemberWord f m j) → MemberSays types (head_third r.head) (has_bit_fields r) (flag f) (get_or r.items at.1 nothing) (get_or s.item_words at.1 [])
   member_at m j at =
       let some = struct_size (kind f) at.0 in
       let it = is_there at.1 (omega arith) at.2.0 in
-      member_says types (head_third r.head) (has_bit_fields r) strings (flag f) r.head (get_or r.items at.1 nothing) (get_or s.item_words at.1 []) it.of it.spells (rw n.kind at at.0) (right.members at.1 nothing it.inside)
+      member_says types (head_third r.head) (has_bit_fields r) strings (flag f) r.head (get_or r.items at.1 nothing) (get_or s.item_words at.1 []) it.of it.encodes (rw n.kind at at.0) (right.members at.1 nothing it.inside)
 
   member_word_is : (m j : ℕ) (at : IsMemberWord f m j) → m < 3 → slice_index f j ≡ get_or (get_or s.item_words at.1 []) m 0
   member_word_is m j at low =
@@ -266,23 +266,23 @@ module _ (strings : List ℕ) (types : List TypeFacts) (r : TypeRecord) (f : Lis
       let it = is_there has.1.1 (let some = struct_size (kind f) has.1.0 in omega arith) has.1.2.0 in
       any_from_Has has_width r.items (get_or r.items has.1.1 nothing) (Has-get_or r.items has.1.1 nothing it.inside) (says.wide (λ e. has.2 (rw word e)))
 
-  pub spelled_faultless : (j : ℕ) (c : BtfCause) → ¬ WordFault strings types f j c
-  spelled_faultless j NameRange fault = let name = field_name fault.0 j fault.1 in name_inside strings (slice_index f j) name.0 name.1 fault.2
-  spelled_faultless j NameUtf8 fault = let name = field_name fault.0 j fault.1 in fault.4 (name_utf8 strings (slice_index f j) name.0 fault.2 name.1 fault.3)
-  spelled_faultless j NameMissing fault = name_needed r.head (rw n.kind at fault.1) right.named (TextAt-unique strings (name_word f) (head_name r.head) [] own_name.text fault.2)
-  spelled_faultless j NameUnwanted fault = fault.4 (TextAt-unique strings (name_word f) fault.2 (head_name r.head) fault.3 own_name.text ∙ no_name_there r.head (rw n.kind at fault.1))
-  spelled_faultless j NotZero fault = fault.2 (n.third ∙ no_third r.head (rw n.kind at fault.1))
-  spelled_faultless j Size fault =
+  pub encoded_faultless : (j : ℕ) (c : BtfCause) → ¬ WordFault strings types f j c
+  encoded_faultless j NameRange fault = let name = field_name fault.0 j fault.1 in name_inside strings (slice_index f j) name.0 name.1 fault.2
+  encoded_faultless j NameUtf8 fault = let name = field_name fault.0 j fault.1 in fault.4 (name_utf8 strings (slice_index f j) name.0 fault.2 name.1 fault.3)
+  encoded_faultless j NameMissing fault = name_needed r.head (rw n.kind at fault.1) right.named (TextAt-unique strings (name_word f) (head_name r.head) [] own_name.text fault.2)
+  encoded_faultless j NameUnwanted fault = fault.4 (TextAt-unique strings (name_word f) fault.2 (head_name r.head) fault.3 own_name.text ∙ no_name_there r.head (rw n.kind at fault.1))
+  encoded_faultless j NotZero fault = fault.2 (n.third ∙ no_third r.head (rw n.kind at fault.1))
+  encoded_faultless j Size fault =
       let fits = size_of_vlen r.head r.items right.size in
       let fails = rw (n.kind, n.third, n.vlen) at fault.1 in
       absurd cc
-  spelled_faultless j Reference fault = let target = field_type j fault.0 in omega (arith, target.known, fault.1)
-  spelled_faultless j TargetKind fault =
+  encoded_faultless j Reference fault = let target = field_type j fault.0 in omega (arith, target.known, fault.1)
+  encoded_faultless j TargetKind fault =
       let target = field_type j fault.0 in
       let fits = target.fits in
       let fails = rw n.kind at fault.2 in
       absurd cc
-  spelled_faultless j IntWord fault =
+  encoded_faultless j IntWord fault =
       let int = int_fits types r.head (sym n.kind ∙ fault.1) right.head_in_range right.head in
       let word : slice_index f 3 ≡ get_or (head_tail r.head) 0 0 = tail_word strings r f s 0 int.inside in
       elim fault.2 [
@@ -292,37 +292,37 @@ module _ (strings : List ℕ) (types : List TypeFacts) (r : TypeRecord) (f : Lis
           | inr bits ↦ let fails = rw (word, n.third) at bits in let passes = int.bits in absurd cc
         ]
       ]
-  spelled_faultless j MemberInt fault =
+  encoded_faultless j MemberInt fault =
       let passes = (member_at 1 j fault.0).int (bit_fields_are fault.1) in
       let fails = rw (member_word_is 1 j fault.0 (lit< tt)) at fault.2 in
       absurd cc
-  spelled_faultless j MemberPlace fault =
+  encoded_faultless j MemberPlace fault =
       let passes = (member_at 2 j fault.0).fits in
       let fails = rw (member_word_is 2 j fault.0 (lit< tt), n.third) at fault.1 in
       absurd cc
-  spelled_faultless j Linkage (inl func) = let low = func_vlen r.head r.items (sym n.kind ∙ func.0) in omega (arith, n.vlen, func.2)
-  spelled_faultless j Linkage (inr var) =
+  encoded_faultless j Linkage (inl func) = let low = func_vlen r.head r.items (sym n.kind ∙ func.0) in omega (arith, n.vlen, func.2)
+  encoded_faultless j Linkage (inr var) =
       let linkage = var_word r.head (sym n.kind ∙ var.0) in
       omega (arith, tail_word strings r f s 0 linkage.0, linkage.1, var.2)
-  spelled_faultless j Component fault =
+  encoded_faultless j Component fault =
       let tag = tag_word types r.head (sym n.kind ∙ fault.0) right.head in
       let word : slice_index f 3 ≡ get_or (head_tail r.head) 0 0 = tail_word strings r f s 0 tag.0 in
       elim tag.1 [
         | inl none ↦ fault.2 (word ∙ none)
         | inr passes ↦ let fails = rw (word, n.third) at fault.3 in absurd cc
       ]
-  spelled_faultless j c fault = absurd fault
+  encoded_faultless j c fault = absurd fault
 
   -- the facts that other records need are in its fields
-  pub spelled_facts : facts_of r ≡ frame_facts f
-  spelled_facts =
+  pub encoded_facts : facts_of r ≡ frame_facts f
+  encoded_facts =
       let its_kind : kind_number r.head ≡ kind f = sym n.kind in
       let its_count : length r.items ≡ (if kind f == FUNC then 0 else vlen f) = rw (n.kind, n.vlen) (count_facts r.head r.items right.items_of) in
       let its_third : head_third r.head ≡ third_word f = sym n.third in
       let int : kind_number r.head ≡ INT → IntFits r.head (get_or (head_tail r.head) 0 0) = λ is. int_fits types r.head is right.head_in_range right.head in
       let word : kind_number r.head ≡ INT → slice_index f 3 ≡ get_or (head_tail r.head) 0 0 = λ is. tail_word strings r f s 0 (int is).inside in
-      let its_offset : good.head_int_offset r.head ≡ (if kind f == INT then int_offset (slice_index f 3) else 0) =
+      let its_offset : valid.head_int_offset r.head ≡ (if kind f == INT then int_offset (slice_index f 3) else 0) =
       rw n.kind (offset_facts r.head (int_offset (slice_index f 3)) (λ is. ap (λ (w : ℕ). int_offset w) (word is) ∙ (int is).offset_is)) in
-      let its_bits : good.head_int_bits r.head ≡ (if kind f == INT then int_bits (slice_index f 3) else 0) =
+      let its_bits : valid.head_int_bits r.head ≡ (if kind f == INT then int_bits (slice_index f 3) else 0) =
       rw n.kind (bits_facts r.head (int_bits (slice_index f 3)) (λ is. ap (λ (w : ℕ). int_bits w) (word is) ∙ (int is).bits_is)) in
       rw (its_kind, its_count, its_third, its_offset, its_bits) refl

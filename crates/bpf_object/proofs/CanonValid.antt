@@ -54,28 +54,28 @@ pub record IsDataOf (x : Object) (number : ℕ) : Type 0 where
   pub is_data : is_kind Data (kind_of_section (section_of x (number - 1))) ≡ true
 
 -- a section of code or data has its bytes
-pub record IsGoodData (s : KeptSection) : Type 0 where
+pub record IsValidData (s : KeptSection) : Type 0 where
   pub kind : is_kind Data (kind_of_section s) ≡ true
   pub content : length s.content ≡ (if s.type == SHT_NOBITS then 0 else s.size)
   pub target : s.target ≡ 0
   pub relocations : s.relocations ≡ []
 
-pub record IsGoodRelocation (x : Object) (r : KeptRelocation) : Type 0 where
+pub record IsValidRelocation (x : Object) (r : KeptRelocation) : Type 0 where
   pub offset : r.offset < 2 ^ 64
   pub type : r.type < 2 ^ 32
   pub symbol : r.symbol < length x.symbols
 
 -- a table of relocations has rows, and is for a section
-pub record IsGoodTable (x : Object) (s : KeptSection) : Type 0 where
+pub record IsValidTable (x : Object) (s : KeptSection) : Type 0 where
   pub kind : is_kind Relocations (kind_of_section s) ≡ true
   pub content : s.content ≡ []
   pub size : s.size ≡ 16 * length s.relocations
   pub entry_size : s.entry_size ≡ 16
   pub target : IsDataOf x s.target
   pub target_name : is_table_name s.name (section_of x (s.target - 1)).name ≡ true
-  pub rows : (k : ℕ) → k < length s.relocations → IsGoodRelocation x (relocation_of s k)
+  pub rows : (k : ℕ) → k < length s.relocations → IsValidRelocation x (relocation_of s k)
 
-pub record IsGoodSection (x : Object) (s : KeptSection) : Type 0 where
+pub record IsValidSection (x : Object) (s : KeptSection) : Type 0 where
   pub name : IsWithoutNul s.name
   pub name_short : length s.name ≤ 1024
   pub type : s.type < 2 ^ 32
@@ -84,7 +84,7 @@ pub record IsGoodSection (x : Object) (s : KeptSection) : Type 0 where
   pub size : s.size < 2 ^ 64
   pub alignment : s.alignment < 2 ^ 64
   pub entry_size : s.entry_size < 2 ^ 64
-  pub kept : IsGoodData s ⊎ IsGoodTable x s
+  pub kept : IsValidData s ⊎ IsValidTable x s
 
 -- ---- symbols
 
@@ -93,7 +93,7 @@ pub record IsPlacedIn (x : Object) (s : KeptSymbol) : Type 0 where
   pub section : IsDataOf x s.section
   pub within : s.value + s.size ≤ (section_of x (s.section - 1)).size
 
-pub record IsGoodSymbol (x : Object) (s : KeptSymbol) : Type 0 where
+pub record IsValidSymbol (x : Object) (s : KeptSymbol) : Type 0 where
   pub name : IsWithoutNul s.name
   pub info : s.info < 256
   pub other : s.other < 256
@@ -105,12 +105,12 @@ pub record IsGoodSymbol (x : Object) (s : KeptSymbol) : Type 0 where
 
 -- ---- objects
 
-pub record GoodObject (x : Object) : Type 0 where
+pub record ValidObject (x : Object) : Type 0 where
   pub flags : x.flags < 2 ^ 32
-  pub sections : (i : ℕ) → i < length x.sections → IsGoodSection x (section_of x i)
+  pub sections : (i : ℕ) → i < length x.sections → IsValidSection x (section_of x i)
   pub some : 0 < length x.symbols
   pub first : symbol_of x 0 ≡ no_symbol
-  pub symbols : (j : ℕ) → j < length x.symbols → IsGoodSymbol x (symbol_of x j)
+  pub symbols : (j : ℕ) → j < length x.symbols → IsValidSymbol x (symbol_of x j)
 
 -- the file can be written: it has fewer sections than special section indices allow, and at most 64 MiB
 pub record IsSmall (x : Object) : Type 0 where
