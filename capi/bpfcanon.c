@@ -21,21 +21,21 @@ static const uint8_t *input(const void *bytes, size_t len)
 	return bytes || len ? (const uint8_t *)bytes : &nowhere;
 }
 
-static uint8_t *output(void *out, size_t room)
+static uint8_t *output(void *out, size_t capacity)
 {
-	return out || room ? (uint8_t *)out : &nowhere;
+	return out || capacity ? (uint8_t *)out : &nowhere;
 }
 
 bpfcanon_answer bpfcanon_btf_canon(uint32_t to, const uint8_t *bytes, size_t len, uint8_t *out,
-                                   size_t room)
+                                   size_t capacity)
 {
-	return bpfcanon_proved_btf_canon(to, input(bytes, len), len, output(out, room), room);
+	return bpfcanon_proved_btf_canon(to, input(bytes, len), len, output(out, capacity), capacity);
 }
 
 bpfcanon_answer bpfcanon_insn_canon(uint32_t order, uint32_t to, const uint8_t *bytes, size_t len,
-                                    uint8_t *out, size_t room)
+                                    uint8_t *out, size_t capacity)
 {
-	return bpfcanon_proved_insn_canon(order, to, input(bytes, len), len, output(out, room), room);
+	return bpfcanon_proved_insn_canon(order, to, input(bytes, len), len, output(out, capacity), capacity);
 }
 
 bpfcanon_answer bpfcanon_btf_check(const uint8_t *bytes, size_t len)
@@ -62,31 +62,31 @@ bpfcanon_answer bpfcanon_insn_same(uint32_t first_order, const uint8_t *first, s
 }
 
 bpfcanon_answer bpfcanon_insn_show(uint32_t order, const uint8_t *bytes, size_t len, char *out,
-                                   size_t room)
+                                   size_t capacity)
 {
-	return bpfcanon_proved_insn_show(order, input(bytes, len), len, output(out, room), room);
+	return bpfcanon_proved_insn_show(order, input(bytes, len), len, output(out, capacity), capacity);
 }
 
 bpfcanon_answer bpfcanon_insn_read(uint32_t to, const char *text, size_t len, uint8_t *out,
-                                   size_t room)
+                                   size_t capacity)
 {
-	return bpfcanon_proved_insn_read(to, input(text, len), len, output(out, room), room);
+	return bpfcanon_proved_insn_read(to, input(text, len), len, output(out, capacity), capacity);
 }
 
-bpfcanon_answer bpfcanon_btf_show(const uint8_t *bytes, size_t len, char *out, size_t room)
+bpfcanon_answer bpfcanon_btf_show(const uint8_t *bytes, size_t len, char *out, size_t capacity)
 {
-	return bpfcanon_proved_btf_show(input(bytes, len), len, output(out, room), room);
+	return bpfcanon_proved_btf_show(input(bytes, len), len, output(out, capacity), capacity);
 }
 
 bpfcanon_answer bpfcanon_insn_front(uint32_t order, uint32_t to, const uint8_t *bytes, size_t len,
-                                   uint8_t *out, size_t room)
+                                   uint8_t *out, size_t capacity)
 {
-	return bpfcanon_proved_insn_front(order, to, input(bytes, len), len, output(out, room), room);
+	return bpfcanon_proved_insn_front(order, to, input(bytes, len), len, output(out, capacity), capacity);
 }
 
-bpfcanon_answer bpfcanon_object_canon(const uint8_t *bytes, size_t len, uint8_t *out, size_t room)
+bpfcanon_answer bpfcanon_object_canon(const uint8_t *bytes, size_t len, uint8_t *out, size_t capacity)
 {
-	return bpfcanon_proved_object_canon(input(bytes, len), len, output(out, room), room);
+	return bpfcanon_proved_object_canon(input(bytes, len), len, output(out, capacity), capacity);
 }
 
 bpfcanon_answer bpfcanon_object_same(const uint8_t *first, size_t first_len, const uint8_t *second,
@@ -95,9 +95,9 @@ bpfcanon_answer bpfcanon_object_same(const uint8_t *first, size_t first_len, con
 	return bpfcanon_proved_object_same(input(first, first_len), first_len, input(second, second_len), second_len);
 }
 
-bpfcanon_answer bpfcanon_object_key(const uint8_t *bytes, size_t len, uint8_t *out, size_t room)
+bpfcanon_answer bpfcanon_object_key(const uint8_t *bytes, size_t len, uint8_t *out, size_t capacity)
 {
-	return bpfcanon_proved_object_key(input(bytes, len), len, output(out, room), room);
+	return bpfcanon_proved_object_key(input(bytes, len), len, output(out, capacity), capacity);
 }
 
 bpfcanon_answer bpfcanon_object_check(const uint8_t *bytes, size_t len)
@@ -113,27 +113,27 @@ bpfcanon_answer bpfcanon_object_check(const uint8_t *bytes, size_t len)
 #define HAS_SIZE(type, size) _Static_assert(sizeof(type) == (size), #type)
 HAS_SIZE(size_t, 8);
 HAS_SIZE(bpfcanon_answer, 56);
-IS_AT(bpfcanon_answer, status, 0); IS_AT(bpfcanon_answer, cause, 4); IS_AT(bpfcanon_answer, pos, 8);
+IS_AT(bpfcanon_answer, status, 0); IS_AT(bpfcanon_answer, cause, 4); IS_AT(bpfcanon_answer, offset, 8);
 IS_AT(bpfcanon_answer, line, 16); IS_AT(bpfcanon_answer, read, 24); IS_AT(bpfcanon_answer, written, 32);
 IS_AT(bpfcanon_answer, needed, 40); IS_AT(bpfcanon_answer, types, 48); IS_AT(bpfcanon_answer, groups, 52);
 HAS_SIZE(bpfcanon_insn, 32);
 IS_AT(bpfcanon_insn, form, 0); IS_AT(bpfcanon_insn, op, 1); IS_AT(bpfcanon_insn, bits, 2);
-IS_AT(bpfcanon_insn, from, 3); IS_AT(bpfcanon_insn, dst, 4); IS_AT(bpfcanon_insn, src, 5);
+IS_AT(bpfcanon_insn, from_bits, 3); IS_AT(bpfcanon_insn, dst, 4); IS_AT(bpfcanon_insn, src, 5);
 IS_AT(bpfcanon_insn, by_reg, 6); IS_AT(bpfcanon_insn, len, 7); IS_AT(bpfcanon_insn, off, 8);
 IS_AT(bpfcanon_insn, group, 10); IS_AT(bpfcanon_insn, imm, 12); IS_AT(bpfcanon_insn, next_imm, 16);
-IS_AT(bpfcanon_insn, zero, 20); IS_AT(bpfcanon_insn, pos, 24);
+IS_AT(bpfcanon_insn, zero, 20); IS_AT(bpfcanon_insn, offset, 24);
 HAS_SIZE(bpfcanon_btf_type, 40);
 IS_AT(bpfcanon_btf_type, kind, 0); IS_AT(bpfcanon_btf_type, flag, 1); IS_AT(bpfcanon_btf_type, encoding, 2);
 IS_AT(bpfcanon_btf_type, linkage, 3); IS_AT(bpfcanon_btf_type, bit_offset, 4); IS_AT(bpfcanon_btf_type, bits, 5);
 IS_AT(bpfcanon_btf_type, items, 6); IS_AT(bpfcanon_btf_type, name, 8); IS_AT(bpfcanon_btf_type, name_len, 12);
-IS_AT(bpfcanon_btf_type, size, 16); IS_AT(bpfcanon_btf_type, target, 20); IS_AT(bpfcanon_btf_type, index, 24);
-IS_AT(bpfcanon_btf_type, count, 28); IS_AT(bpfcanon_btf_type, component, 32); IS_AT(bpfcanon_btf_type, first, 36);
+IS_AT(bpfcanon_btf_type, size, 16); IS_AT(bpfcanon_btf_type, target, 20); IS_AT(bpfcanon_btf_type, index_type, 24);
+IS_AT(bpfcanon_btf_type, elements, 28); IS_AT(bpfcanon_btf_type, component, 32); IS_AT(bpfcanon_btf_type, first, 36);
 HAS_SIZE(bpfcanon_btf_item, 40);
 IS_AT(bpfcanon_btf_item, name, 0); IS_AT(bpfcanon_btf_item, name_len, 4); IS_AT(bpfcanon_btf_item, target, 8);
 IS_AT(bpfcanon_btf_item, bit_offset, 12); IS_AT(bpfcanon_btf_item, width, 16); IS_AT(bpfcanon_btf_item, offset, 20);
 IS_AT(bpfcanon_btf_item, size, 24); IS_AT(bpfcanon_btf_item, kind, 28); IS_AT(bpfcanon_btf_item, value, 32);
 
-/* Records in place of a null pointer whose room is 0. */
+/* Records in place of a null pointer whose capacity is 0. */
 static bpfcanon_insn no_insn;
 static bpfcanon_btf_type no_type;
 static bpfcanon_btf_item no_item;
@@ -153,74 +153,98 @@ static bpfcanon_answer ended(uint32_t status)
 }
 
 bpfcanon_answer bpfcanon_insn_decode(uint32_t order, const uint8_t *bytes, size_t len,
-                                     bpfcanon_insn *out, size_t room)
+                                     bpfcanon_insn *out, size_t capacity)
 {
 	if (!is_aligned(out))
-		return ended(BPFCANON_ALIGNMENT);
-	return bpfcanon_proved_insn_decode(order, input(bytes, len), len, out || room ? out : &no_insn,
-	                                   room);
+		return ended(BPFCANON_STATUS_ALIGNMENT);
+	return bpfcanon_proved_insn_decode(order, input(bytes, len), len, out || capacity ? out : &no_insn,
+	                                   capacity);
 }
 
 bpfcanon_answer bpfcanon_insn_encode(uint32_t to, const bpfcanon_insn *insns, size_t count,
-                                     uint8_t *out, size_t room)
+                                     uint8_t *out, size_t capacity)
 {
 	if (!is_aligned(insns))
-		return ended(BPFCANON_ALIGNMENT);
+		return ended(BPFCANON_STATUS_ALIGNMENT);
 	return bpfcanon_proved_insn_encode(to, insns || count ? insns : &no_insn, count,
-	                                   output(out, room), room);
+	                                   output(out, capacity), capacity);
 }
 
 bpfcanon_answer bpfcanon_btf_decode(const uint8_t *bytes, size_t len, bpfcanon_btf_type *types,
-                                    size_t types_room, bpfcanon_btf_item *items,
-                                    size_t items_room)
+                                    size_t types_capacity, bpfcanon_btf_item *items,
+                                    size_t items_capacity)
 {
 	if (!is_aligned(types) || !is_aligned(items))
-		return ended(BPFCANON_ALIGNMENT);
+		return ended(BPFCANON_STATUS_ALIGNMENT);
 	return bpfcanon_proved_btf_decode(input(bytes, len), len,
-	                                  types || types_room ? types : &no_type, types_room,
-	                                  items || items_room ? items : &no_item, items_room);
+	                                  types || types_capacity ? types : &no_type, types_capacity,
+	                                  items || items_capacity ? items : &no_item, items_capacity);
+}
+
+bpfcanon_answer bpfcanon_btf_encode(uint32_t to, const bpfcanon_btf_type *types,
+                                    size_t types_count, const bpfcanon_btf_item *items,
+                                    size_t items_count, const char *strings, size_t strings_len,
+                                    uint8_t *out, size_t capacity)
+{
+	if (!is_aligned(types) || !is_aligned(items))
+		return ended(BPFCANON_STATUS_ALIGNMENT);
+	return bpfcanon_proved_btf_encode(to, types || types_count ? types : &no_type, types_count,
+	                                  items || items_count ? items : &no_item, items_count,
+	                                  input(strings, strings_len), strings_len,
+	                                  output(out, capacity), capacity);
 }
 
 /* --- Calls that allocate --- */
 
-/* A call that writes, in a shape that fits all six, with what finds a fault and what it is given besides its output. */
+/* A call that writes, in a shape that fits all seven, with what finds a fault and what it is given besides its output. */
 struct request {
-	bpfcanon_answer (*write)(const struct request *request, uint8_t *out, size_t room);
+	bpfcanon_answer (*write)(const struct request *request, uint8_t *out, size_t capacity);
 	bpfcanon_answer (*check)(const struct request *request);
 	uint32_t order, to;
 	const uint8_t *bytes;
 	size_t len;
+	const bpfcanon_btf_type *types;
+	size_t types_count;
+	const bpfcanon_btf_item *items;
+	size_t items_count;
 };
 
-static bpfcanon_answer write_btf(const struct request *request, uint8_t *out, size_t room)
+static bpfcanon_answer write_btf(const struct request *request, uint8_t *out, size_t capacity)
 {
-	return bpfcanon_proved_btf_canon(request->to, request->bytes, request->len, out, room);
+	return bpfcanon_proved_btf_canon(request->to, request->bytes, request->len, out, capacity);
 }
 
-static bpfcanon_answer write_insns(const struct request *request, uint8_t *out, size_t room)
+static bpfcanon_answer write_insns(const struct request *request, uint8_t *out, size_t capacity)
 {
 	return bpfcanon_proved_insn_canon(request->order, request->to, request->bytes, request->len,
-	                                  out, room);
+	                                  out, capacity);
 }
 
-static bpfcanon_answer write_listing(const struct request *request, uint8_t *out, size_t room)
+static bpfcanon_answer write_listing(const struct request *request, uint8_t *out, size_t capacity)
 {
-	return bpfcanon_proved_insn_show(request->order, request->bytes, request->len, out, room);
+	return bpfcanon_proved_insn_show(request->order, request->bytes, request->len, out, capacity);
 }
 
-static bpfcanon_answer write_listed(const struct request *request, uint8_t *out, size_t room)
+static bpfcanon_answer write_listed(const struct request *request, uint8_t *out, size_t capacity)
 {
-	return bpfcanon_proved_insn_read(request->to, request->bytes, request->len, out, room);
+	return bpfcanon_proved_insn_read(request->to, request->bytes, request->len, out, capacity);
 }
 
-static bpfcanon_answer write_types(const struct request *request, uint8_t *out, size_t room)
+static bpfcanon_answer write_types(const struct request *request, uint8_t *out, size_t capacity)
 {
-	return bpfcanon_proved_btf_show(request->bytes, request->len, out, room);
+	return bpfcanon_proved_btf_show(request->bytes, request->len, out, capacity);
 }
 
-static bpfcanon_answer write_object(const struct request *request, uint8_t *out, size_t room)
+static bpfcanon_answer write_object(const struct request *request, uint8_t *out, size_t capacity)
 {
-	return bpfcanon_proved_object_canon(request->bytes, request->len, out, room);
+	return bpfcanon_proved_object_canon(request->bytes, request->len, out, capacity);
+}
+
+static bpfcanon_answer write_encoded(const struct request *request, uint8_t *out, size_t capacity)
+{
+	return bpfcanon_btf_encode(request->to, request->types, request->types_count, request->items,
+	                           request->items_count, (const char *)request->bytes, request->len,
+	                           out, capacity);
 }
 
 /* Takes the memory that the call needs without its block. */
@@ -238,20 +262,20 @@ static bpfcanon_answer check_insns(const struct request *request)
 /* What a call returns that has no memory and has freed its blocks: a fault is one whatever memory there is. */
 static bpfcanon_answer no_memory(bpfcanon_answer checked)
 {
-	return checked.status == BPFCANON_FAULT || checked.status == BPFCANON_ORDER ? checked : ended(BPFCANON_MEMORY);
+	return checked.status == BPFCANON_STATUS_FAULT || checked.status == BPFCANON_STATUS_ORDER ? checked : ended(BPFCANON_STATUS_OUT_OF_MEMORY);
 }
 
 /* Writes into a block of this capacity, with one byte more for a NUL. */
-static bpfcanon_answer write_block(const struct request *request, size_t room, uint8_t **out)
+static bpfcanon_answer write_block(const struct request *request, size_t capacity, uint8_t **out)
 {
-	uint8_t *block = (uint8_t *)malloc(room + 1), *smaller;
+	uint8_t *block = (uint8_t *)malloc(capacity + 1), *smaller;
 	bpfcanon_answer answer;
 
 	*out = NULL;
 	if (!block)
-		return ended(BPFCANON_MEMORY);
-	answer = request->write(request, block, room);
-	if (answer.status != BPFCANON_DONE) {
+		return ended(BPFCANON_STATUS_OUT_OF_MEMORY);
+	answer = request->write(request, block, capacity);
+	if (answer.status != BPFCANON_STATUS_DONE) {
 		free(block);
 		return answer;
 	}
@@ -261,22 +285,28 @@ static bpfcanon_answer write_block(const struct request *request, size_t room, u
 	return answer;
 }
 
-/* Writes into a block of `times` the length of the input, and if that is too short, once more. */
+/* Writes into a block of a guessed capacity, and if that is too short, once more. */
+static bpfcanon_answer write_guessed(const struct request *request, size_t guess, uint8_t **out)
+{
+	bpfcanon_answer answer = write_block(request, guess, out);
+
+	if (answer.status == BPFCANON_STATUS_ROOM)
+		answer = write_block(request, answer.needed, out);
+	return answer.status == BPFCANON_STATUS_OUT_OF_MEMORY ? no_memory(request->check(request)) : answer;
+}
+
+/* Writes into a block of `times` the length of the input. */
 static bpfcanon_answer write_new(const struct request *request, size_t times, uint8_t **out)
 {
 	const size_t most = (SIZE_MAX - 1) / times;
-	bpfcanon_answer answer;
 
-	answer = write_block(request, times * (request->len < most ? request->len : most), out);
-	if (answer.status == BPFCANON_ROOM)
-		answer = write_block(request, answer.needed, out);
-	return answer.status == BPFCANON_MEMORY ? no_memory(request->check(request)) : answer;
+	return write_guessed(request, times * (request->len < most ? request->len : most), out);
 }
 
 bpfcanon_answer bpfcanon_btf_canon_new(uint32_t to, const uint8_t *bytes, size_t len,
                                        uint8_t **out)
 {
-	const struct request request = { write_btf, without_room, 0, to, input(bytes, len), len };
+	const struct request request = { write_btf, without_room, 0, to, input(bytes, len), len, NULL, 0, NULL, 0 };
 
 	return write_new(&request, 1, out);
 }
@@ -284,7 +314,7 @@ bpfcanon_answer bpfcanon_btf_canon_new(uint32_t to, const uint8_t *bytes, size_t
 bpfcanon_answer bpfcanon_insn_canon_new(uint32_t order, uint32_t to, const uint8_t *bytes,
                                         size_t len, uint8_t **out)
 {
-	const struct request request = { write_insns, check_insns, order, to, input(bytes, len), len };
+	const struct request request = { write_insns, check_insns, order, to, input(bytes, len), len, NULL, 0, NULL, 0 };
 
 	return write_new(&request, 1, out);
 }
@@ -293,7 +323,7 @@ bpfcanon_answer bpfcanon_insn_canon_new(uint32_t order, uint32_t to, const uint8
 bpfcanon_answer bpfcanon_insn_show_new(uint32_t order, const uint8_t *bytes, size_t len,
                                        char **out)
 {
-	const struct request request = { write_listing, check_insns, order, 0, input(bytes, len), len };
+	const struct request request = { write_listing, check_insns, order, 0, input(bytes, len), len, NULL, 0, NULL, 0 };
 	uint8_t *block;
 	bpfcanon_answer answer = write_new(&request, 4, &block);
 
@@ -304,7 +334,7 @@ bpfcanon_answer bpfcanon_insn_show_new(uint32_t order, const uint8_t *bytes, siz
 /* Instructions are at most twice as long as their listing: "exit" has 4 characters for 8 bytes. */
 bpfcanon_answer bpfcanon_insn_read_new(uint32_t to, const char *text, size_t len, uint8_t **out)
 {
-	const struct request request = { write_listed, without_room, 0, to, input(text, len), len };
+	const struct request request = { write_listed, without_room, 0, to, input(text, len), len, NULL, 0, NULL, 0 };
 
 	return write_new(&request, 2, out);
 }
@@ -315,7 +345,7 @@ bpfcanon_answer bpfcanon_insn_read_new(uint32_t to, const char *text, size_t len
  */
 bpfcanon_answer bpfcanon_btf_show_new(const uint8_t *bytes, size_t len, char **out)
 {
-	const struct request request = { write_types, without_room, 0, 0, input(bytes, len), len };
+	const struct request request = { write_types, without_room, 0, 0, input(bytes, len), len, NULL, 0, NULL, 0 };
 	uint8_t *block;
 	bpfcanon_answer answer = write_new(&request, 4, &block);
 
@@ -329,9 +359,22 @@ bpfcanon_answer bpfcanon_btf_show_new(const uint8_t *bytes, size_t len, char **o
  */
 bpfcanon_answer bpfcanon_object_canon_new(const uint8_t *bytes, size_t len, uint8_t **out)
 {
-	const struct request request = { write_object, without_room, 0, 0, input(bytes, len), len };
+	const struct request request = { write_object, without_room, 0, 0, input(bytes, len), len, NULL, 0, NULL, 0 };
 
 	return write_new(&request, 2, out);
+}
+
+/* A type has at most 24 bytes without its items, and an item 12. Types that share items need more. */
+bpfcanon_answer bpfcanon_btf_encode_new(uint32_t to, const bpfcanon_btf_type *types,
+                                        size_t types_count, const bpfcanon_btf_item *items,
+                                        size_t items_count, const char *strings,
+                                        size_t strings_len, uint8_t **out)
+{
+	const struct request request = { write_encoded, without_room, 0, to, (const uint8_t *)strings,
+	                                 strings_len, types, types_count, items, items_count };
+	const size_t guess = 32 + 24 * types_count + 12 * items_count + strings_len;
+
+	return write_guessed(&request, guess < BPFCANON_BTF_MAX ? guess : BPFCANON_BTF_MAX, out);
 }
 
 /* A block for a number of records, at least for one, or NULL. */
@@ -354,15 +397,15 @@ static void *shrunk(void *block, size_t count, size_t size)
 bpfcanon_answer bpfcanon_insn_decode_new(uint32_t order, const uint8_t *bytes, size_t len,
                                          bpfcanon_insn **out)
 {
-	const size_t room = len / 8;
-	bpfcanon_insn *block = (bpfcanon_insn *)records_block(room, sizeof *block);
+	const size_t capacity = len / 8;
+	bpfcanon_insn *block = (bpfcanon_insn *)records_block(capacity, sizeof *block);
 	bpfcanon_answer answer;
 
 	*out = NULL;
 	if (!block)
 		return no_memory(bpfcanon_insn_decode(order, bytes, len, NULL, 0));
-	answer = bpfcanon_insn_decode(order, bytes, len, block, room);
-	if (answer.status != BPFCANON_DONE) {
+	answer = bpfcanon_insn_decode(order, bytes, len, block, capacity);
+	if (answer.status != BPFCANON_STATUS_DONE) {
 		free(block);
 		return answer;
 	}
@@ -376,16 +419,16 @@ bpfcanon_answer bpfcanon_btf_decode_new(const uint8_t *bytes, size_t len,
 {
 	bpfcanon_btf_type *all = (bpfcanon_btf_type *)records_block(len / 12, sizeof *all);
 	bpfcanon_btf_item *all_items = (bpfcanon_btf_item *)records_block(len / 8, sizeof *all_items);
-	bpfcanon_answer answer = ended(BPFCANON_MEMORY);
+	bpfcanon_answer answer = ended(BPFCANON_STATUS_OUT_OF_MEMORY);
 
 	*types = NULL;
 	*items = NULL;
 	if (all && all_items)
 		answer = bpfcanon_btf_decode(bytes, len, all, len / 12, all_items, len / 8);
-	if (answer.status != BPFCANON_DONE) {
+	if (answer.status != BPFCANON_STATUS_DONE) {
 		free(all);
 		free(all_items);
-		return answer.status == BPFCANON_MEMORY ? no_memory(bpfcanon_btf_decode(bytes, len, NULL, 0, NULL, 0)) : answer;
+		return answer.status == BPFCANON_STATUS_OUT_OF_MEMORY ? no_memory(bpfcanon_btf_decode(bytes, len, NULL, 0, NULL, 0)) : answer;
 	}
 	*types = (bpfcanon_btf_type *)shrunk(all, answer.types, sizeof *all);
 	*items = (bpfcanon_btf_item *)shrunk(all_items, answer.written, sizeof *all_items);
@@ -414,8 +457,8 @@ static const struct meaning statuses[] = {
 	{ "Different", "the two inputs are different" },
 	{ "Fault", "the input, or the first of two, has a fault" },
 	{ "FaultSecond", "the second of two inputs has a fault, and the first has none" },
-	{ "Memory", "out of memory" },
-	{ "Room", "the output is longer than its room" },
+	{ "OutOfMemory", "out of memory" },
+	{ "Room", "the output is longer than the capacity of its buffer" },
 	{ "Order", "a number is not that of a byte order" },
 	{ "Alignment", "an array of records is not aligned to 8 bytes" },
 };
@@ -490,7 +533,7 @@ static const struct meaning btf_causes[] = {
 };
 
 static const struct meaning object_causes[] = {
-	/* from BPFCANON_OBJECT_FILE_TOO_LARGE on */
+	/* from BPFCANON_OBJECT_CAUSE_FILE_TOO_LARGE on */
 	{ "FileTooLarge", "the file is longer than 64 MiB" },
 	{ "FileCut", "the file is shorter than an ELF header" },
 	{ "Magic", "the file doesn't begin with the magic number of ELF" },
@@ -506,29 +549,31 @@ static const struct meaning object_causes[] = {
 	{ "SectionCount", "the number of sections is 0, or 0xff00 or more" },
 	{ "SectionTable", "the section header table isn't inside the file" },
 	{ "NamesIndex", "e_shstrndx isn't the index of a section" },
-	{ "FirstSection", "the first section header isn't zero" },
+	{ "FirstSection", "the first section header isn't all zeros" },
 	{ "NamesTable", "the names of sections aren't in a string table" },
 	{ "SectionCut", "the section extends past the end of the file" },
 	{ "SectionName", "the section's name is outside the names, or longer than 1,024 bytes" },
 	{ "SectionKind", "no section of a BPF object has this type, name and flags" },
-	{ "SectionTwice", "there are two sections of a kind of which a file has one" },
+	{ "SectionTwice", "there is a second .symtab, .BTF or .BTF.ext" },
 	{ "RelocationTarget",
-	  "the table of relocations isn't named after the section that it is for" },
+	  "the table of relocations isn't named after its section, or that isn't code or "
+	  "data" },
 	{ "NoSymbols", "there is no symbol table" },
-	{ "SymbolTableSize", "the size of the symbol table isn't that of one or more symbols" },
+	{ "SymbolTableSize", "the size of the symbol table is 0 or not a multiple of 24" },
 	{ "SymbolEntrySize", "sh_entsize of the symbol table isn't 24" },
 	{ "SymbolNames", "the names of symbols aren't in a string table" },
-	{ "FirstSymbol", "the first symbol isn't zero" },
+	{ "FirstSymbol", "the first symbol isn't all zeros" },
 	{ "SymbolName", "the symbol's name is outside the names of symbols" },
 	{ "SymbolSection",
-	  "the symbol is in no section, or isn't local and in a section that loaders "
-	  "don't see" },
+	  "the symbol's section doesn't exist, or isn't code or data and the symbol isn't "
+	  "local" },
 	{ "SymbolPlace", "the symbol extends past the end of its section" },
 	{ "RelocationTableSize", "the size of the table of relocations isn't a multiple of 16" },
 	{ "RelocationEntrySize", "sh_entsize of the table of relocations isn't 16" },
 	{ "RelocationSymbols", "sh_link of the table of relocations isn't the symbol table" },
 	{ "RelocationSymbol",
-	  "the relocation names no symbol, or one that is in no section of code or data" },
+	  "the relocation names no symbol, a source file, or a symbol in a section that "
+	  "isn't code or data" },
 	{ "TypesTooLarge", ".BTF has more than 15,728,640 bytes" },
 	{ "TypesOrder", "the byte order of .BTF isn't that of the file" },
 	{ "TypesLayout", "type_off of .BTF isn't 0" },
@@ -545,13 +590,15 @@ static const struct meaning object_causes[] = {
 	{ "ExtensionPart",
 	  "a part of .BTF.ext isn't inside the section, or not aligned to 4 bytes" },
 	{ "ExtensionRecordSize",
-	  "the records of a part of .BTF.ext don't have the size of the part" },
+	  "the record size of a part of .BTF.ext isn't 8 (functions) or 16 (lines, CO-RE "
+	  "relocations)" },
 	{ "ExtensionGroup", "a group of records extends past the end of its part, or is empty" },
 	{ "ExtensionString",
-	  "a string of .BTF.ext isn't inside the strings of .BTF, or no section can have "
-	  "this name" },
-	{ "ExtensionLines", "functions and source lines don't belong to one another" },
-	{ "ResultTooLarge", "the canonical file, or its .BTF, is larger than a file may be" },
+	  "a string of .BTF.ext isn't inside the strings of .BTF, or is too long for the "
+	  "name of a section" },
+	{ "ExtensionLines", "functions and source lines of .BTF.ext don't match" },
+	{ "ResultTooLarge",
+	  "the canonical file has more than 64 MiB, or its .BTF more than 15 MiB" },
 };
 
 static const struct meaning no_meaning = { NULL, NULL };
@@ -602,8 +649,8 @@ const char *bpfcanon_btf_cause_text(uint32_t cause)
 /* A cause of an object file, or of .BTF in it. */
 static const struct meaning *object_meaning(uint32_t cause)
 {
-	return cause <= BPFCANON_BTF_CAUSES ? MEANING(btf_causes, cause)
-	                                    : MEANING(object_causes, cause - BPFCANON_OBJECT_FILE_TOO_LARGE);
+	return cause <= BPFCANON_BTF_CAUSE_MAX ? MEANING(btf_causes, cause)
+	                                    : MEANING(object_causes, cause - BPFCANON_OBJECT_CAUSE_FILE_TOO_LARGE);
 }
 
 const char *bpfcanon_object_cause_name(uint32_t cause)

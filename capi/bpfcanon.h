@@ -10,11 +10,11 @@
  * calls that allocate, the inline functions and macros, the names and the version.
  *
  * Obligations of the caller, which no call checks:
- *   - An input points to `len` readable bytes and `out` to `room` writable ones, for as long as
+ *   - An input points to `len` readable bytes and `out` to `capacity` writable ones, for as long as
  *     the call runs. Either may be NULL if its length is 0. NULL with a length is an access to
  *     address 0. The bytes of `out` may be uninitialised: no call reads one before it writes it.
- *   - The `out`, `types` and `items` of a call with `_new` in its name are not NULL: the call
- *     sets each of them, even if you need only one.
+ *   - The `out`, `types` and `items` of a call with `_new` in its name are not NULL: the call sets
+ *     each of them, even if you need only one.
  *   - No output overlaps an input or another output.
  *   - While a call runs, no other thread writes to its inputs, and none reads or writes its `out`.
  *   - malloc, realloc and free belong to one allocator, any thread may call them, and malloc aligns
@@ -28,8 +28,8 @@
  * bpfcanon(1) are its own. BTF has the limits of its format, see BPFCANON_BTF_MAX, and object files
  * have BPFCANON_OBJECT_MAX.
  *
- * All lengths, offsets and room are in bytes, except that arrays of records have their room, and
- * what was written or is needed, in records. An offset counts from the first byte of its input.
+ * All lengths, offsets and capacities are in bytes, except that those of arrays of records are in
+ * records. An offset counts from the first byte of its input.
  *
  * Records. bpfcanon_insn, bpfcanon_btf_type and bpfcanon_btf_item have integers as fields and no
  * padding, so that they can be compared and hashed as bytes. They will not grow: a new field would
@@ -48,6 +48,7 @@
 
 #include <stddef.h>
 #include <stdint.h>
+#include <string.h>
 
 #ifdef __cplusplus
 extern "C" {
@@ -75,180 +76,183 @@ extern "C" {
 
 /* A byte order. Instructions don't state their own; BTF does. Little-endian is canonical. */
 enum bpfcanon_order {
-	BPFCANON_LITTLE = 0,
-	BPFCANON_BIG = 1
+	BPFCANON_ORDER_LITTLE = 0,
+	BPFCANON_ORDER_BIG = 1
 };
 
 /*
  * How a call ended. The comment says which fields of the answer are set; the others are 0. If
- * several apply, BPFCANON_ALIGNMENT comes first, then BPFCANON_ORDER, BPFCANON_FAULT and
- * BPFCANON_ROOM; from bpfcanon_insn_front BPFCANON_ROOM comes before BPFCANON_FAULT.
+ * several apply, BPFCANON_STATUS_ALIGNMENT comes first, then BPFCANON_STATUS_ORDER,
+ * BPFCANON_STATUS_FAULT and BPFCANON_STATUS_ROOM; from bpfcanon_insn_front BPFCANON_STATUS_ROOM
+ * comes before BPFCANON_STATUS_FAULT.
  */
 enum bpfcanon_status {
 	/* done: the fields that the call sets; or two inputs are the same */
-	BPFCANON_DONE = 0,
+	BPFCANON_STATUS_DONE = 0,
 	/* two inputs are different */
-	BPFCANON_DIFFERENT = 1,
-	/* the input, or the first of two, has a fault: `cause`, with `pos`, or `line` in a listing */
-	BPFCANON_FAULT = 2,
-	/* the second of two inputs has a fault and the first has none: `cause` and `pos` */
-	BPFCANON_FAULT_SECOND = 3,
+	BPFCANON_STATUS_DIFFERENT = 1,
+	/* the input, or the first of two, has a fault: `cause`, with `offset`, or `line` in a listing */
+	BPFCANON_STATUS_FAULT = 2,
+	/* the second of two inputs has a fault and the first has none: `cause` and `offset` */
+	BPFCANON_STATUS_FAULT_SECOND = 3,
 	/* out of memory */
-	BPFCANON_MEMORY = 4,
-	/* the output is longer than `room`, and nothing was written: `needed`, and of btf_decode `types` */
-	BPFCANON_ROOM = 5,
+	BPFCANON_STATUS_OUT_OF_MEMORY = 4,
+	/* the output is longer than `capacity`, nothing was written: `needed`, of btf_decode `types` */
+	BPFCANON_STATUS_ROOM = 5,
 	/* an argument is not a valid byte order */
-	BPFCANON_ORDER = 6,
-	/* an array of records, even an empty one, is not aligned to 8 bytes; nothing was read or written */
-	BPFCANON_ALIGNMENT = 7
+	BPFCANON_STATUS_ORDER = 6,
+	/* an array of records, even an empty one, is not aligned to 8 bytes: nothing was read */
+	BPFCANON_STATUS_ALIGNMENT = 7
 };
 
 /*
- * The causes of faults of instructions. Their numbers are 1 to BPFCANON_INSN_CAUSES, and likewise
- * below. A later version of the library may have more causes; they follow the last of these.
+ * The causes of faults of instructions. Their numbers are 1 to BPFCANON_INSN_CAUSE_MAX, and
+ * likewise below. A later version of the library may have more causes; they follow the last of
+ * these.
  */
 enum bpfcanon_insn_cause {
-	BPFCANON_INSN_TRUNCATED = 1,
-	BPFCANON_INSN_OPCODE = 2,
-	BPFCANON_INSN_DST = 3,
-	BPFCANON_INSN_SRC = 4,
-	BPFCANON_INSN_OFFSET = 5,
-	BPFCANON_INSN_IMM = 6,
-	BPFCANON_INSN_RESERVED = 7,
-	BPFCANON_INSN_NEXT_IMM = 8
+	BPFCANON_INSN_CAUSE_TRUNCATED = 1,
+	BPFCANON_INSN_CAUSE_OPCODE = 2,
+	BPFCANON_INSN_CAUSE_DST = 3,
+	BPFCANON_INSN_CAUSE_SRC = 4,
+	BPFCANON_INSN_CAUSE_OFFSET = 5,
+	BPFCANON_INSN_CAUSE_IMM = 6,
+	BPFCANON_INSN_CAUSE_RESERVED = 7,
+	BPFCANON_INSN_CAUSE_NEXT_IMM = 8
 };
-#define BPFCANON_INSN_CAUSES 8
+#define BPFCANON_INSN_CAUSE_MAX 8
 
 /* The causes of faults of listings, which bpfcanon_insn_read reports. */
 enum bpfcanon_line_cause {
-	BPFCANON_LINE_CHAR = 1,
-	BPFCANON_LINE_WORD = 2,
-	BPFCANON_LINE_SHAPE = 3,
-	BPFCANON_LINE_RANGE = 4
+	BPFCANON_LINE_CAUSE_CHAR = 1,
+	BPFCANON_LINE_CAUSE_WORD = 2,
+	BPFCANON_LINE_CAUSE_SHAPE = 3,
+	BPFCANON_LINE_CAUSE_RANGE = 4
 };
-#define BPFCANON_LINE_CAUSES 4
+#define BPFCANON_LINE_CAUSE_MAX 4
 
 /* The causes of faults of BTF. */
 enum bpfcanon_btf_cause {
-	BPFCANON_BTF_SHORT_HEADER = 1,
-	BPFCANON_BTF_MAGIC = 2,
-	BPFCANON_BTF_VERSION = 3,
-	BPFCANON_BTF_FLAGS = 4,
-	BPFCANON_BTF_HEADER_LENGTH = 5,
-	BPFCANON_BTF_HEADER_TAIL = 6,
-	BPFCANON_BTF_TYPE_LENGTH = 7,
-	BPFCANON_BTF_STRING_LENGTH = 8,
-	BPFCANON_BTF_SECTIONS = 9,
-	BPFCANON_BTF_FILE_LENGTH = 10,
-	BPFCANON_BTF_FIRST_STRING = 11,
-	BPFCANON_BTF_LAST_STRING = 12,
-	BPFCANON_BTF_RECORD_CUT = 13,
-	BPFCANON_BTF_INFO_BITS = 14,
-	BPFCANON_BTF_KIND_NUMBER = 15,
-	BPFCANON_BTF_FLAG_SET = 16,
-	BPFCANON_BTF_VLEN = 17,
-	BPFCANON_BTF_TAIL_CUT = 18,
-	BPFCANON_BTF_NAME_RANGE = 19,
-	BPFCANON_BTF_NAME_UTF8 = 20,
-	BPFCANON_BTF_NAME_MISSING = 21,
-	BPFCANON_BTF_NAME_UNWANTED = 22,
-	BPFCANON_BTF_TEXTS_TOO_LONG = 23, /* never reported */
-	BPFCANON_BTF_NOT_ZERO = 24,
-	BPFCANON_BTF_SIZE = 25,
-	BPFCANON_BTF_REFERENCE = 26,
-	BPFCANON_BTF_TARGET_KIND = 27,
-	BPFCANON_BTF_INT_WORD = 28,
-	BPFCANON_BTF_MEMBER_INT = 29,
-	BPFCANON_BTF_MEMBER_PLACE = 30,
-	BPFCANON_BTF_LINKAGE = 31,
-	BPFCANON_BTF_COMPONENT = 32
+	BPFCANON_BTF_CAUSE_SHORT_HEADER = 1,
+	BPFCANON_BTF_CAUSE_MAGIC = 2,
+	BPFCANON_BTF_CAUSE_VERSION = 3,
+	BPFCANON_BTF_CAUSE_FLAGS = 4,
+	BPFCANON_BTF_CAUSE_HEADER_LENGTH = 5,
+	BPFCANON_BTF_CAUSE_HEADER_TAIL = 6,
+	BPFCANON_BTF_CAUSE_TYPE_LENGTH = 7,
+	BPFCANON_BTF_CAUSE_STRING_LENGTH = 8,
+	BPFCANON_BTF_CAUSE_SECTIONS = 9,
+	BPFCANON_BTF_CAUSE_FILE_LENGTH = 10,
+	BPFCANON_BTF_CAUSE_FIRST_STRING = 11,
+	BPFCANON_BTF_CAUSE_LAST_STRING = 12,
+	BPFCANON_BTF_CAUSE_RECORD_CUT = 13,
+	BPFCANON_BTF_CAUSE_INFO_BITS = 14,
+	BPFCANON_BTF_CAUSE_KIND_NUMBER = 15,
+	BPFCANON_BTF_CAUSE_FLAG_SET = 16,
+	BPFCANON_BTF_CAUSE_VLEN = 17,
+	BPFCANON_BTF_CAUSE_TAIL_CUT = 18,
+	BPFCANON_BTF_CAUSE_NAME_RANGE = 19,
+	BPFCANON_BTF_CAUSE_NAME_UTF8 = 20,
+	BPFCANON_BTF_CAUSE_NAME_MISSING = 21,
+	BPFCANON_BTF_CAUSE_NAME_UNWANTED = 22,
+	BPFCANON_BTF_CAUSE_TEXTS_TOO_LONG = 23, /* never reported */
+	BPFCANON_BTF_CAUSE_NOT_ZERO = 24,
+	BPFCANON_BTF_CAUSE_SIZE = 25,
+	BPFCANON_BTF_CAUSE_REFERENCE = 26,
+	BPFCANON_BTF_CAUSE_TARGET_KIND = 27,
+	BPFCANON_BTF_CAUSE_INT_WORD = 28,
+	BPFCANON_BTF_CAUSE_MEMBER_INT = 29,
+	BPFCANON_BTF_CAUSE_MEMBER_PLACE = 30,
+	BPFCANON_BTF_CAUSE_LINKAGE = 31,
+	BPFCANON_BTF_CAUSE_COMPONENT = 32
 };
-#define BPFCANON_BTF_CAUSES 32
+#define BPFCANON_BTF_CAUSE_MAX 32
 
 /*
- * The causes of faults of object files, from 101 to BPFCANON_OBJECT_CAUSES. If .BTF has a fault by
- * itself, `cause` is that of enum bpfcanon_btf_cause, whose numbers are less than 101.
+ * The causes of faults of object files, from 101 to BPFCANON_OBJECT_CAUSE_MAX. If .BTF has a fault
+ * by itself, `cause` is that of enum bpfcanon_btf_cause, whose numbers are less than 101.
  */
 enum bpfcanon_object_cause {
-	BPFCANON_OBJECT_FILE_TOO_LARGE = 101,
-	BPFCANON_OBJECT_FILE_CUT = 102,
-	BPFCANON_OBJECT_MAGIC = 103,
-	BPFCANON_OBJECT_CLASS = 104,
-	BPFCANON_OBJECT_BYTE_ORDER = 105,
-	BPFCANON_OBJECT_IDENT_VERSION = 106,
-	BPFCANON_OBJECT_FILE_TYPE = 107,
-	BPFCANON_OBJECT_MACHINE = 108,
-	BPFCANON_OBJECT_FILE_VERSION = 109,
-	BPFCANON_OBJECT_HEADER_SIZE = 110,
-	BPFCANON_OBJECT_SEGMENTS = 111,
-	BPFCANON_OBJECT_SECTION_HEADER_SIZE = 112,
-	BPFCANON_OBJECT_SECTION_COUNT = 113,
-	BPFCANON_OBJECT_SECTION_TABLE = 114,
-	BPFCANON_OBJECT_NAMES_INDEX = 115,
-	BPFCANON_OBJECT_FIRST_SECTION = 116,
-	BPFCANON_OBJECT_NAMES_TABLE = 117,
-	BPFCANON_OBJECT_SECTION_CUT = 118,
-	BPFCANON_OBJECT_SECTION_NAME = 119,
-	BPFCANON_OBJECT_SECTION_KIND = 120,
-	BPFCANON_OBJECT_SECTION_TWICE = 121,
-	BPFCANON_OBJECT_RELOCATION_TARGET = 122,
-	BPFCANON_OBJECT_NO_SYMBOLS = 123,
-	BPFCANON_OBJECT_SYMBOL_TABLE_SIZE = 124,
-	BPFCANON_OBJECT_SYMBOL_ENTRY_SIZE = 125,
-	BPFCANON_OBJECT_SYMBOL_NAMES = 126,
-	BPFCANON_OBJECT_FIRST_SYMBOL = 127,
-	BPFCANON_OBJECT_SYMBOL_NAME = 128,
-	BPFCANON_OBJECT_SYMBOL_SECTION = 129,
-	BPFCANON_OBJECT_SYMBOL_PLACE = 130,
-	BPFCANON_OBJECT_RELOCATION_TABLE_SIZE = 131,
-	BPFCANON_OBJECT_RELOCATION_ENTRY_SIZE = 132,
-	BPFCANON_OBJECT_RELOCATION_SYMBOLS = 133,
-	BPFCANON_OBJECT_RELOCATION_SYMBOL = 134,
-	BPFCANON_OBJECT_TYPES_TOO_LARGE = 135,
-	BPFCANON_OBJECT_TYPES_ORDER = 136,
-	BPFCANON_OBJECT_TYPES_LAYOUT = 137,
-	BPFCANON_OBJECT_TYPES_NAME = 138,
-	BPFCANON_OBJECT_TYPES_SECTION = 139,
-	BPFCANON_OBJECT_TYPES_FLAG = 140,
-	BPFCANON_OBJECT_EXTENSION_WITHOUT_TYPES = 141,
-	BPFCANON_OBJECT_EXTENSION_CUT = 142,
-	BPFCANON_OBJECT_EXTENSION_MAGIC = 143,
-	BPFCANON_OBJECT_EXTENSION_VERSION = 144,
-	BPFCANON_OBJECT_EXTENSION_FLAGS = 145,
-	BPFCANON_OBJECT_EXTENSION_HEADER_SIZE = 146,
-	BPFCANON_OBJECT_EXTENSION_PART = 147,
-	BPFCANON_OBJECT_EXTENSION_RECORD_SIZE = 148,
-	BPFCANON_OBJECT_EXTENSION_GROUP = 149,
-	BPFCANON_OBJECT_EXTENSION_STRING = 150,
-	BPFCANON_OBJECT_EXTENSION_LINES = 151,
-	BPFCANON_OBJECT_RESULT_TOO_LARGE = 152
+	BPFCANON_OBJECT_CAUSE_FILE_TOO_LARGE = 101,
+	BPFCANON_OBJECT_CAUSE_FILE_CUT = 102,
+	BPFCANON_OBJECT_CAUSE_MAGIC = 103,
+	BPFCANON_OBJECT_CAUSE_CLASS = 104,
+	BPFCANON_OBJECT_CAUSE_BYTE_ORDER = 105,
+	BPFCANON_OBJECT_CAUSE_IDENT_VERSION = 106,
+	BPFCANON_OBJECT_CAUSE_FILE_TYPE = 107,
+	BPFCANON_OBJECT_CAUSE_MACHINE = 108,
+	BPFCANON_OBJECT_CAUSE_FILE_VERSION = 109,
+	BPFCANON_OBJECT_CAUSE_HEADER_SIZE = 110,
+	BPFCANON_OBJECT_CAUSE_SEGMENTS = 111,
+	BPFCANON_OBJECT_CAUSE_SECTION_HEADER_SIZE = 112,
+	BPFCANON_OBJECT_CAUSE_SECTION_COUNT = 113,
+	BPFCANON_OBJECT_CAUSE_SECTION_TABLE = 114,
+	BPFCANON_OBJECT_CAUSE_NAMES_INDEX = 115,
+	BPFCANON_OBJECT_CAUSE_FIRST_SECTION = 116,
+	BPFCANON_OBJECT_CAUSE_NAMES_TABLE = 117,
+	BPFCANON_OBJECT_CAUSE_SECTION_CUT = 118,
+	BPFCANON_OBJECT_CAUSE_SECTION_NAME = 119,
+	BPFCANON_OBJECT_CAUSE_SECTION_KIND = 120,
+	BPFCANON_OBJECT_CAUSE_SECTION_TWICE = 121,
+	BPFCANON_OBJECT_CAUSE_RELOCATION_TARGET = 122,
+	BPFCANON_OBJECT_CAUSE_NO_SYMBOLS = 123,
+	BPFCANON_OBJECT_CAUSE_SYMBOL_TABLE_SIZE = 124,
+	BPFCANON_OBJECT_CAUSE_SYMBOL_ENTRY_SIZE = 125,
+	BPFCANON_OBJECT_CAUSE_SYMBOL_NAMES = 126,
+	BPFCANON_OBJECT_CAUSE_FIRST_SYMBOL = 127,
+	BPFCANON_OBJECT_CAUSE_SYMBOL_NAME = 128,
+	BPFCANON_OBJECT_CAUSE_SYMBOL_SECTION = 129,
+	BPFCANON_OBJECT_CAUSE_SYMBOL_PLACE = 130,
+	BPFCANON_OBJECT_CAUSE_RELOCATION_TABLE_SIZE = 131,
+	BPFCANON_OBJECT_CAUSE_RELOCATION_ENTRY_SIZE = 132,
+	BPFCANON_OBJECT_CAUSE_RELOCATION_SYMBOLS = 133,
+	BPFCANON_OBJECT_CAUSE_RELOCATION_SYMBOL = 134,
+	BPFCANON_OBJECT_CAUSE_TYPES_TOO_LARGE = 135,
+	BPFCANON_OBJECT_CAUSE_TYPES_ORDER = 136,
+	BPFCANON_OBJECT_CAUSE_TYPES_LAYOUT = 137,
+	BPFCANON_OBJECT_CAUSE_TYPES_NAME = 138,
+	BPFCANON_OBJECT_CAUSE_TYPES_SECTION = 139,
+	BPFCANON_OBJECT_CAUSE_TYPES_FLAG = 140,
+	BPFCANON_OBJECT_CAUSE_EXTENSION_WITHOUT_TYPES = 141,
+	BPFCANON_OBJECT_CAUSE_EXTENSION_CUT = 142,
+	BPFCANON_OBJECT_CAUSE_EXTENSION_MAGIC = 143,
+	BPFCANON_OBJECT_CAUSE_EXTENSION_VERSION = 144,
+	BPFCANON_OBJECT_CAUSE_EXTENSION_FLAGS = 145,
+	BPFCANON_OBJECT_CAUSE_EXTENSION_HEADER_SIZE = 146,
+	BPFCANON_OBJECT_CAUSE_EXTENSION_PART = 147,
+	BPFCANON_OBJECT_CAUSE_EXTENSION_RECORD_SIZE = 148,
+	BPFCANON_OBJECT_CAUSE_EXTENSION_GROUP = 149,
+	BPFCANON_OBJECT_CAUSE_EXTENSION_STRING = 150,
+	BPFCANON_OBJECT_CAUSE_EXTENSION_LINES = 151,
+	BPFCANON_OBJECT_CAUSE_RESULT_TOO_LARGE = 152
 };
-#define BPFCANON_OBJECT_CAUSES 152
+#define BPFCANON_OBJECT_CAUSE_MAX 152
 
 /* Conformance groups (RFC 9669 section 2.4), as bits of a mask. */
 enum bpfcanon_group {
-	BPFCANON_BASE32 = 1,
-	BPFCANON_BASE64 = 2,
-	BPFCANON_ATOMIC32 = 4,
-	BPFCANON_ATOMIC64 = 8,
-	BPFCANON_DIVMUL32 = 16,
-	BPFCANON_DIVMUL64 = 32,
-	BPFCANON_PACKET = 64
+	BPFCANON_GROUP_BASE32 = 1,
+	BPFCANON_GROUP_BASE64 = 2,
+	BPFCANON_GROUP_ATOMIC32 = 4,
+	BPFCANON_GROUP_ATOMIC64 = 8,
+	BPFCANON_GROUP_DIVMUL32 = 16,
+	BPFCANON_GROUP_DIVMUL64 = 32,
+	BPFCANON_GROUP_PACKET = 64
 };
 
 /*
- * What a call returns. Fields that the call or its status doesn't set are 0. `pos` is the offset
- * that docs/FAULTS.md states for the cause. For BPFCANON_INSN_TRUNCATED that is the first byte of
- * the incomplete slot, which is the end of the input only if a wide load lacks its second slot.
+ * What a call returns. Fields that the call or its status doesn't set are 0. `offset` is the offset
+ * that docs/FAULTS.md states for the cause. For BPFCANON_INSN_CAUSE_TRUNCATED that is the first
+ * byte of the incomplete slot, which is the end of the input only if a wide load lacks its second
+ * slot.
  */
 typedef struct bpfcanon_answer {
 	uint32_t status; /* enum bpfcanon_status */
-	uint32_t cause;  /* for a fault: enum bpfcanon_insn_cause, _line_cause, _btf_cause, _object_cause */
-	uint64_t pos;    /* the offset of a fault, or the index of a record */
+	uint32_t cause;  /* of a fault: enum bpfcanon_insn_cause, _line_, _btf_ or _object_cause */
+	uint64_t offset; /* of a fault, or from an encoder the index of a record */
 	uint64_t line;   /* the line of a fault of a listing, from 1 */
 	size_t read;     /* bpfcanon_insn_front: the length of the complete instructions */
 	size_t written;  /* for a call that writes: the length of the output */
-	size_t needed;   /* with BPFCANON_ROOM: the buffer size that the output needs */
+	size_t needed;   /* with BPFCANON_STATUS_ROOM: the buffer size that the output needs */
 	uint32_t types;  /* bpfcanon_btf_check and _decode: the number of types, not counting void */
 	uint32_t groups; /* bpfcanon_insn_groups: a mask of enum bpfcanon_group */
 } bpfcanon_answer;
@@ -257,61 +261,61 @@ typedef struct bpfcanon_answer {
 
 /*
  * The form of an instruction (RFC 9669 sections 4 and 5), with the fields of bpfcanon_insn that it
- * has besides form, len, group and pos. The other fields are 0.
+ * has besides form, len, group and offset. The other fields are 0.
  */
 enum bpfcanon_form {
-	BPFCANON_ALU = 1,          /* bits, op: bpfcanon_alu; dst; by_reg; src or imm */
-	BPFCANON_MOVSX = 2,        /* bits, from, dst, src */
-	BPFCANON_NEG = 3,          /* bits, dst */
-	BPFCANON_SWAP = 4,         /* bits, op: bpfcanon_swap; dst */
-	BPFCANON_JUMP = 5,         /* off: how many slots after the next instruction */
-	BPFCANON_JUMP_LONG = 6,    /* imm: likewise */
-	BPFCANON_BRANCH = 7,       /* bits, op: bpfcanon_branch; dst; by_reg; src or imm; off: as JUMP */
-	BPFCANON_CALL_HELPER = 8,  /* imm: the ID of the helper */
-	BPFCANON_CALL_LOCAL = 9,   /* imm: how many slots after the next instruction */
-	BPFCANON_CALL_BTF = 10,    /* imm: the BTF ID of the function; off */
-	BPFCANON_EXIT = 11,
-	BPFCANON_LOAD = 12,        /* bits, dst, src, off: dst = memory at src + off */
-	BPFCANON_LOAD_SIGNED = 13, /* bits, dst, src, off: likewise */
-	BPFCANON_STORE_IMM = 14,   /* bits, dst, off, imm: memory at dst + off = imm */
-	BPFCANON_STORE_REG = 15,   /* bits, dst, src, off: memory at dst + off = src */
-	BPFCANON_ATOMIC = 16,      /* bits, op: bpfcanon_atomic; dst, src, off: on memory at dst + off */
-	BPFCANON_WIDE = 17,        /* bits: 64; op: bpfcanon_wide; dst, imm, next_imm */
-	BPFCANON_PACKET_ABS = 18,  /* bits, imm */
-	BPFCANON_PACKET_IND = 19   /* bits, src, imm */
+	BPFCANON_FORM_ALU = 1,          /* bits, op: bpfcanon_alu; dst; by_reg; src or imm */
+	BPFCANON_FORM_MOVSX = 2,        /* bits, from_bits, dst, src */
+	BPFCANON_FORM_NEG = 3,          /* bits, dst */
+	BPFCANON_FORM_SWAP = 4,         /* bits, op: bpfcanon_swap; dst */
+	BPFCANON_FORM_JUMP = 5,         /* off: how many slots after the next instruction */
+	BPFCANON_FORM_JUMP_LONG = 6,    /* imm: likewise */
+	BPFCANON_FORM_BRANCH = 7,       /* bits, op: bpfcanon_branch; dst, off, by_reg, src or imm */
+	BPFCANON_FORM_CALL_HELPER = 8,  /* imm: the ID of the helper */
+	BPFCANON_FORM_CALL_LOCAL = 9,   /* imm: how many slots after the next instruction */
+	BPFCANON_FORM_CALL_BTF = 10,    /* imm: the BTF ID of the function; off */
+	BPFCANON_FORM_EXIT = 11,
+	BPFCANON_FORM_LOAD = 12,        /* bits, dst, src, off: dst = memory at src + off */
+	BPFCANON_FORM_LOAD_SIGNED = 13, /* bits, dst, src, off: likewise */
+	BPFCANON_FORM_STORE_IMM = 14,   /* bits, dst, off, imm: memory at dst + off = imm */
+	BPFCANON_FORM_STORE_REG = 15,   /* bits, dst, src, off: memory at dst + off = src */
+	BPFCANON_FORM_ATOMIC = 16,      /* bits, op: bpfcanon_atomic; dst, src, off: memory at dst + off */
+	BPFCANON_FORM_WIDE = 17,        /* bits: 64; op: bpfcanon_wide; dst, imm, next_imm */
+	BPFCANON_FORM_PACKET_ABS = 18,  /* bits, imm */
+	BPFCANON_FORM_PACKET_IND = 19   /* bits, src, imm */
 };
 
 /* An arithmetic operation: its code in the standard, and 16 more for the signed divisions. */
 enum bpfcanon_alu {
-	BPFCANON_ADD = 0,
-	BPFCANON_SUB = 1,
-	BPFCANON_MUL = 2,
-	BPFCANON_DIV = 3,
-	BPFCANON_OR = 4,
-	BPFCANON_AND = 5,
-	BPFCANON_LSH = 6,
-	BPFCANON_RSH = 7,
-	BPFCANON_MOD = 9,
-	BPFCANON_XOR = 10,
-	BPFCANON_MOV = 11,
-	BPFCANON_ARSH = 12,
-	BPFCANON_SDIV = 19,
-	BPFCANON_SMOD = 25
+	BPFCANON_ALU_ADD = 0,
+	BPFCANON_ALU_SUB = 1,
+	BPFCANON_ALU_MUL = 2,
+	BPFCANON_ALU_DIV = 3,
+	BPFCANON_ALU_OR = 4,
+	BPFCANON_ALU_AND = 5,
+	BPFCANON_ALU_LSH = 6,
+	BPFCANON_ALU_RSH = 7,
+	BPFCANON_ALU_MOD = 9,
+	BPFCANON_ALU_XOR = 10,
+	BPFCANON_ALU_MOV = 11,
+	BPFCANON_ALU_ARSH = 12,
+	BPFCANON_ALU_SDIV = 19,
+	BPFCANON_ALU_SMOD = 25
 };
 
 /* The comparison of a branch: its code in the standard. */
 enum bpfcanon_branch {
-	BPFCANON_EQ = 1,
-	BPFCANON_GT = 2,
-	BPFCANON_GE = 3,
-	BPFCANON_SET = 4,
-	BPFCANON_NE = 5,
-	BPFCANON_SGT = 6,
-	BPFCANON_SGE = 7,
-	BPFCANON_LT = 10,
-	BPFCANON_LE = 11,
-	BPFCANON_SLT = 12,
-	BPFCANON_SLE = 13
+	BPFCANON_BRANCH_EQ = 1,
+	BPFCANON_BRANCH_GT = 2,
+	BPFCANON_BRANCH_GE = 3,
+	BPFCANON_BRANCH_SET = 4,
+	BPFCANON_BRANCH_NE = 5,
+	BPFCANON_BRANCH_SGT = 6,
+	BPFCANON_BRANCH_SGE = 7,
+	BPFCANON_BRANCH_LT = 10,
+	BPFCANON_BRANCH_LE = 11,
+	BPFCANON_BRANCH_SLT = 12,
+	BPFCANON_BRANCH_SLE = 13
 };
 
 /* A byte swap: its opcode. */
@@ -327,44 +331,44 @@ enum bpfcanon_atomic {
 	BPFCANON_ATOMIC_OR = 0x40,
 	BPFCANON_ATOMIC_AND = 0x50,
 	BPFCANON_ATOMIC_XOR = 0xa0,
-	BPFCANON_FETCH_ADD = 0x01,
-	BPFCANON_FETCH_OR = 0x41,
-	BPFCANON_FETCH_AND = 0x51,
-	BPFCANON_FETCH_XOR = 0xa1,
-	BPFCANON_XCHG = 0xe1,
-	BPFCANON_CMPXCHG = 0xf1
+	BPFCANON_ATOMIC_FETCH_ADD = 0x01,
+	BPFCANON_ATOMIC_FETCH_OR = 0x41,
+	BPFCANON_ATOMIC_FETCH_AND = 0x51,
+	BPFCANON_ATOMIC_FETCH_XOR = 0xa1,
+	BPFCANON_ATOMIC_XCHG = 0xe1,
+	BPFCANON_ATOMIC_CMPXCHG = 0xf1
 };
 
 /* What a wide load loads: its src field. The immediates that it doesn't have are 0. */
 enum bpfcanon_wide {
-	BPFCANON_NUMBER = 0,       /* imm: the low 32 bits; next_imm: the high ones */
-	BPFCANON_MAP_FD = 1,       /* imm */
-	BPFCANON_MAP_VALUE_FD = 2, /* imm; next_imm: the offset in bytes */
-	BPFCANON_VAR_ADDR = 3,     /* imm, next_imm */
-	BPFCANON_CODE_ADDR = 4,    /* imm: how many slots after the next instruction */
-	BPFCANON_MAP_IDX = 5,      /* imm */
-	BPFCANON_MAP_VALUE_IDX = 6 /* imm; next_imm: the offset in bytes */
+	BPFCANON_WIDE_NUMBER = 0,       /* imm: the low 32 bits; next_imm: the high ones */
+	BPFCANON_WIDE_MAP_FD = 1,       /* imm */
+	BPFCANON_WIDE_MAP_VALUE_FD = 2, /* imm; next_imm: the offset in bytes */
+	BPFCANON_WIDE_VAR_ADDR = 3,     /* imm, next_imm */
+	BPFCANON_WIDE_CODE_ADDR = 4,    /* imm: how many slots after the next instruction */
+	BPFCANON_WIDE_MAP_IDX = 5,      /* imm */
+	BPFCANON_WIDE_MAP_VALUE_IDX = 6 /* imm; next_imm: the offset in bytes */
 };
 
 /* An instruction: 32 bytes. */
 typedef struct bpfcanon_insn {
-	uint8_t form;     /* enum bpfcanon_form */
-	uint8_t op;       /* the operation, as the form says */
-	uint8_t bits;     /* 8, 16, 32 or 64: of the operation, or of the memory that is read or written */
-	uint8_t from;     /* BPFCANON_MOVSX: how many bits it reads, 8, 16 or 32 */
-	uint8_t dst;      /* a register, 0 to 10 */
-	uint8_t src;      /* a register, 0 to 10 */
-	uint8_t by_reg;   /* 1 if the second operand is src, 0 if it is imm */
-	uint8_t len;      /* the length of the encoding in bytes: 16 for BPFCANON_WIDE, otherwise 8 */
-	int16_t off;      /* the offset field */
-	uint16_t group;   /* one bit of enum bpfcanon_group, without the groups that it includes */
-	int32_t imm;      /* the immediate */
-	int32_t next_imm; /* the immediate of the second slot */
-	uint32_t zero;    /* 0 */
-	uint64_t pos;     /* the offset of the encoding */
+	uint8_t form;       /* enum bpfcanon_form */
+	uint8_t op;         /* the operation, as the form says */
+	uint8_t bits;       /* 8, 16, 32 or 64: of the operation, or of the memory that is read or written */
+	uint8_t from_bits;  /* MOVSX: how many bits it reads, 8, 16 or 32 */
+	uint8_t dst;        /* a register, 0 to 10 */
+	uint8_t src;        /* a register, 0 to 10 */
+	uint8_t by_reg;     /* 1 if the second operand is src, 0 if it is imm */
+	uint8_t len;        /* the length of the encoding in bytes: 16 for BPFCANON_FORM_WIDE, otherwise 8 */
+	int16_t off;        /* the offset field */
+	uint16_t group;     /* one bit of enum bpfcanon_group, without the groups that it includes */
+	int32_t imm;        /* the immediate */
+	int32_t next_imm;   /* the immediate of the second slot */
+	uint32_t zero;      /* 0 */
+	uint64_t offset;    /* the offset of the encoding */
 } bpfcanon_insn;
 
-/* The number that a wide load with the operation BPFCANON_NUMBER loads. `insn` is a pointer. */
+/* The number that a wide load with `op` BPFCANON_WIDE_NUMBER loads. `insn` is a pointer. */
 #define bpfcanon_insn_number(insn) \
 	((uint64_t)(uint32_t)(insn)->next_imm << 32 | (uint32_t)(insn)->imm)
 
@@ -372,63 +376,78 @@ typedef struct bpfcanon_insn {
  * The kind of a type (btf.rst section 2.2), with the fields of bpfcanon_btf_type that it has
  * besides kind. The other fields are 0, except that name and first always have a value.
  */
-enum bpfcanon_kind {
-	BPFCANON_KIND_INT = 1,         /* name, size, encoding, bit_offset, bits */
-	BPFCANON_KIND_PTR = 2,         /* target */
-	BPFCANON_KIND_ARRAY = 3,       /* target: of its elements; index, count */
-	BPFCANON_KIND_STRUCT = 4,      /* name, size, items: members */
-	BPFCANON_KIND_UNION = 5,       /* name, size, items: members */
-	BPFCANON_KIND_ENUM = 6,        /* name, size, flag: signed; items: values */
-	BPFCANON_KIND_FWD = 7,         /* name, flag: a union */
-	BPFCANON_KIND_TYPEDEF = 8,     /* name, target */
-	BPFCANON_KIND_VOLATILE = 9,    /* target */
-	BPFCANON_KIND_CONST = 10,      /* target */
-	BPFCANON_KIND_RESTRICT = 11,   /* target */
-	BPFCANON_KIND_FUNC = 12,       /* name, target: its FUNC_PROTO; linkage */
-	BPFCANON_KIND_FUNC_PROTO = 13, /* target: what it returns; items: parameters */
-	BPFCANON_KIND_VAR = 14,        /* name, target, linkage */
-	BPFCANON_KIND_DATASEC = 15,    /* name, size, items: entries */
-	BPFCANON_KIND_FLOAT = 16,      /* name, size */
-	BPFCANON_KIND_DECL_TAG = 17,   /* name, target, component, flag: the kind_flag */
-	BPFCANON_KIND_TYPE_TAG = 18,   /* name, target, flag: the kind_flag */
-	BPFCANON_KIND_ENUM64 = 19      /* name, size, flag: signed; items: values */
+enum bpfcanon_btf_kind {
+	BPFCANON_BTF_KIND_INT = 1,         /* name, size, encoding, bit_offset, bits */
+	BPFCANON_BTF_KIND_PTR = 2,         /* target */
+	BPFCANON_BTF_KIND_ARRAY = 3,       /* target: of its elements; index_type, elements */
+	BPFCANON_BTF_KIND_STRUCT = 4,      /* name, size, items: members */
+	BPFCANON_BTF_KIND_UNION = 5,       /* name, size, items: members */
+	BPFCANON_BTF_KIND_ENUM = 6,        /* name, size, flag: signed; items: values */
+	BPFCANON_BTF_KIND_FWD = 7,         /* name, flag: a union */
+	BPFCANON_BTF_KIND_TYPEDEF = 8,     /* name, target */
+	BPFCANON_BTF_KIND_VOLATILE = 9,    /* target */
+	BPFCANON_BTF_KIND_CONST = 10,      /* target */
+	BPFCANON_BTF_KIND_RESTRICT = 11,   /* target */
+	BPFCANON_BTF_KIND_FUNC = 12,       /* name, target: its FUNC_PROTO; linkage */
+	BPFCANON_BTF_KIND_FUNC_PROTO = 13, /* target: what it returns; items: parameters */
+	BPFCANON_BTF_KIND_VAR = 14,        /* name, target, linkage */
+	BPFCANON_BTF_KIND_DATASEC = 15,    /* name, size, items: entries */
+	BPFCANON_BTF_KIND_FLOAT = 16,      /* name, size */
+	BPFCANON_BTF_KIND_DECL_TAG = 17,   /* name, target, component, flag: the kind_flag */
+	BPFCANON_BTF_KIND_TYPE_TAG = 18,   /* name, target, flag: the kind_flag */
+	BPFCANON_BTF_KIND_ENUM64 = 19      /* name, size, flag: signed; items: values */
 };
 
 /*
  * A type: 40 bytes. IDs count from 1: that of types[i] is i + 1. Void, with ID 0, has no record.
  *
- * Each `target` and `index` that was decoded is 0 or the ID of a type of the same file, of a kind
- * that docs/FAULTS.md allows there. Types may form a circle: `const` of itself is accepted, so a
- * loop that follows `target` needs a limit or has to note where it was.
+ * Each `target` and `index_type` that was decoded is 0 or the ID of a type of the same file, of a
+ * kind that docs/FAULTS.md allows there. Types may form a cycle: `const` of itself is accepted, so
+ * a loop that follows `target` needs a limit or has to note where it was.
  */
 typedef struct bpfcanon_btf_type {
-	uint8_t kind;       /* enum bpfcanon_kind */
-	uint8_t flag;       /* 0 or 1 */
-	uint8_t encoding;   /* INT: 0 plain, 1 signed, 2 char, 4 bool */
-	uint8_t linkage;    /* FUNC, VAR: 0 static, 1 global, 2 extern */
-	uint8_t bit_offset; /* INT: where its value begins */
-	uint8_t bits;       /* INT: the length of its value */
-	uint16_t items;     /* the number of its items */
-	uint32_t name;      /* where name_off points, as an offset in the input, with a NUL after the name */
-	uint32_t name_len;  /* the length of the name in bytes, 0 if there is none */
-	uint32_t size;      /* in bytes */
-	uint32_t target;    /* the ID of the type that it refers to */
-	uint32_t index;     /* ARRAY: the ID of the type of its index */
-	uint32_t count;     /* ARRAY: the number of its elements */
-	int32_t component;  /* DECL_TAG: the index of a member or parameter, -1 for the entire type */
-	uint32_t first;     /* how many items the types before it have: the index of its first item */
+	uint8_t kind;        /* enum bpfcanon_btf_kind */
+	uint8_t flag;        /* 0 or 1 */
+	uint8_t encoding;    /* INT: enum bpfcanon_btf_encoding */
+	uint8_t linkage;     /* FUNC, VAR: enum bpfcanon_btf_linkage */
+	uint8_t bit_offset;  /* INT: where its value begins */
+	uint8_t bits;        /* INT: the length of its value */
+	uint16_t items;      /* the number of its items */
+	uint32_t name;       /* the offset of the name in the input, where a NUL follows it */
+	uint32_t name_len;   /* the length of the name in bytes, 0 if there is none */
+	uint32_t size;       /* in bytes */
+	uint32_t target;     /* the ID of the type that it refers to */
+	uint32_t index_type; /* ARRAY: the ID of the type of its index */
+	uint32_t elements;   /* ARRAY: the number of its elements */
+	int32_t component;   /* DECL_TAG: the index of a member or parameter, -1 for the entire type */
+	uint32_t first;      /* how many items the types before it have: the index of its first item */
 } bpfcanon_btf_type;
+
+/* The encoding of an INT (btf.rst section 2.2.1). */
+enum bpfcanon_btf_encoding {
+	BPFCANON_BTF_ENCODING_PLAIN = 0, /* unsigned */
+	BPFCANON_BTF_ENCODING_SIGNED = 1,
+	BPFCANON_BTF_ENCODING_CHAR = 2,
+	BPFCANON_BTF_ENCODING_BOOL = 4
+};
+
+/* The linkage of a function or variable (btf.rst sections 2.2.12 and 2.2.14). */
+enum bpfcanon_btf_linkage {
+	BPFCANON_BTF_LINKAGE_STATIC = 0,
+	BPFCANON_BTF_LINKAGE_GLOBAL = 1,
+	BPFCANON_BTF_LINKAGE_EXTERN = 2
+};
 
 /*
  * The kind of an item, with the fields of bpfcanon_btf_item that it has besides kind. The other
  * fields are 0, except that name always has a value.
  */
-enum bpfcanon_item {
-	BPFCANON_MEMBER = 1,  /* name, target, bit_offset, width */
-	BPFCANON_VALUE = 2,   /* of an ENUM: name, value */
-	BPFCANON_VALUE64 = 3, /* of an ENUM64: name, value */
-	BPFCANON_PARAM = 4,   /* name, target; the last one has neither if it is `...` */
-	BPFCANON_ENTRY = 5    /* of a DATASEC: target, offset, size */
+enum bpfcanon_btf_item_kind {
+	BPFCANON_BTF_ITEM_KIND_MEMBER = 1,       /* name, target, bit_offset, width */
+	BPFCANON_BTF_ITEM_KIND_ENUM_VALUE = 2,   /* of an ENUM: name, value */
+	BPFCANON_BTF_ITEM_KIND_ENUM64_VALUE = 3, /* of an ENUM64: name, value */
+	BPFCANON_BTF_ITEM_KIND_PARAM = 4,        /* name, target; neither in the last one if it is `...` */
+	BPFCANON_BTF_ITEM_KIND_ENTRY = 5         /* of a DATASEC: target, offset, size */
 };
 
 /* An item of a type, which is a member, value, parameter or entry: 40 bytes. */
@@ -440,8 +459,8 @@ typedef struct bpfcanon_btf_item {
 	uint32_t width;      /* MEMBER: the bits of a bit-field, 0 if it is none */
 	uint32_t offset;     /* ENTRY: in bytes */
 	uint32_t size;       /* ENTRY: in bytes */
-	uint32_t kind;       /* enum bpfcanon_item */
-	uint64_t value;      /* VALUE: 32 bits, zero-extended; VALUE64: 64; signed if the type's flag is 1 */
+	uint32_t kind;       /* enum bpfcanon_btf_item_kind */
+	uint64_t value;      /* of an ENUM 32 bits, zero-extended; signed if the type's flag is 1 */
 } bpfcanon_btf_item;
 
 /*
@@ -460,35 +479,92 @@ typedef struct bpfcanon_btf_item {
 	for ((item) = (type)->items ? (all) + (type)->first : NULL; \
 	     (item) && (item) < (all) + (type)->first + (type)->items; (item)++)
 
-/* --- Calls on the caller's memory --- */
+/* An inline function of this header, also in C89. */
+#define BPFCANON_INLINE static __inline__ __attribute__((__unused__))
 
 /*
- * Writes the canonical form of BTF in the byte order `to`. If `to` is BPFCANON_LITTLE these are the
- * canonical bytes. Sets `written`. Room of `len` bytes is always enough.
+ * Finds types by name: the ID of the first of `count` types after the ID `after` whose name is
+ * `name`, or 0 if there is none. Begin with `after` 0. `bytes` is the input of the types.
+ */
+BPFCANON_INLINE uint32_t bpfcanon_btf_by_name(const uint8_t *bytes, const bpfcanon_btf_type *types,
+                                              uint32_t count, const char *name, uint32_t after)
+{
+	const size_t len = strlen(name);
+	uint32_t i;
+
+	for (i = after; len && i < count; i++)
+		if (types[i].name_len == len && !memcmp(bytes + types[i].name, name, len))
+			return i + 1;
+	return 0;
+}
+
+/* What bpfcanon_btf_resolve returns in place of an ID. */
+#define BPFCANON_BTF_NO_SUCH_TYPE (-1) /* the ID is over `count` */
+#define BPFCANON_BTF_CYCLE (-2)        /* the types lead back to themselves */
+
+/*
+ * Follows TYPEDEF, VOLATILE, CONST, RESTRICT and TYPE_TAG from a type of `count` types to the first
+ * type of another kind, and returns its ID, which is 0 for void.
+ */
+BPFCANON_INLINE int64_t bpfcanon_btf_resolve(const bpfcanon_btf_type *types, uint32_t count,
+                                             uint32_t id)
+{
+	/* On a cycle the walk comes back to `seen`, which is set again after 1, 2, 4.. steps. */
+	uint32_t seen = id, steps = 0, limit = 1;
+
+	for (; id && id <= count; steps++) {
+		switch (types[id - 1].kind) {
+		case BPFCANON_BTF_KIND_TYPEDEF:
+		case BPFCANON_BTF_KIND_VOLATILE:
+		case BPFCANON_BTF_KIND_CONST:
+		case BPFCANON_BTF_KIND_RESTRICT:
+		case BPFCANON_BTF_KIND_TYPE_TAG:
+			break;
+		default:
+			return id;
+		}
+		if (steps == limit) {
+			seen = id;
+			steps = 0;
+			limit *= 2;
+		}
+		id = types[id - 1].target;
+		if (id == seen)
+			return BPFCANON_BTF_CYCLE;
+	}
+	return id ? BPFCANON_BTF_NO_SUCH_TYPE : 0;
+}
+
+/* --- Calls on the caller's memory. Their comments list statuses without BPFCANON_STATUS_ --- */
+
+/*
+ * Writes the canonical form of BTF in the byte order `to`. If `to` is BPFCANON_ORDER_LITTLE these
+ * are the canonical bytes. Sets `written`. A capacity of `len` bytes is always enough.
  *
- * This call and the others that write set `out` only if the status is BPFCANON_DONE, or, from
- * bpfcanon_insn_front, BPFCANON_FAULT. The bytes after the output are unchanged, and with any other
- * status so is all of `out`. With `out` NULL and `room` 0 an output that isn't empty results in
- * BPFCANON_ROOM, with its length in `needed`; otherwise the result is that of any other call.
+ * This call and the others that write set `out` only if the status is BPFCANON_STATUS_DONE, or,
+ * from bpfcanon_insn_front, BPFCANON_STATUS_FAULT. The bytes after the output are unchanged, and
+ * with any other status so is all of `out`. With `out` NULL and `capacity` 0 an output that isn't
+ * empty results in BPFCANON_STATUS_ROOM, with its length in `needed`; otherwise the result is that
+ * of any other call.
  *
- * Statuses: BPFCANON_DONE, BPFCANON_FAULT, BPFCANON_MEMORY, BPFCANON_ROOM, BPFCANON_ORDER.
+ * Statuses: DONE, FAULT, OUT_OF_MEMORY, ROOM, ORDER.
  */
 bpfcanon_answer bpfcanon_btf_canon(uint32_t to, const uint8_t *bytes, size_t len, uint8_t *out,
-                                   size_t room);
+                                   size_t capacity);
 
 /*
  * Converts instructions from the byte order `order` to the byte order `to`. If `to` is
- * BPFCANON_LITTLE these are the canonical bytes. Sets `written`, which is `len`.
+ * BPFCANON_ORDER_LITTLE these are the canonical bytes. Sets `written`, which is `len`.
  *
- * Statuses: BPFCANON_DONE, BPFCANON_FAULT, BPFCANON_MEMORY, BPFCANON_ROOM, BPFCANON_ORDER.
+ * Statuses: DONE, FAULT, OUT_OF_MEMORY, ROOM, ORDER.
  */
 bpfcanon_answer bpfcanon_insn_canon(uint32_t order, uint32_t to, const uint8_t *bytes, size_t len,
-                                    uint8_t *out, size_t room);
+                                    uint8_t *out, size_t capacity);
 
 /*
  * Counts the types of BTF, or reports its first fault. Sets `types`.
  *
- * Statuses: BPFCANON_DONE, BPFCANON_FAULT, BPFCANON_MEMORY.
+ * Statuses: DONE, FAULT, OUT_OF_MEMORY.
  */
 bpfcanon_answer bpfcanon_btf_check(const uint8_t *bytes, size_t len);
 
@@ -496,17 +572,17 @@ bpfcanon_answer bpfcanon_btf_check(const uint8_t *bytes, size_t len);
  * Returns the conformance groups that the instructions need, including implied ones. Sets `groups`.
  * Allocates nothing.
  *
- * Statuses: BPFCANON_DONE, BPFCANON_FAULT, BPFCANON_ORDER.
+ * Statuses: DONE, FAULT, ORDER.
  */
 bpfcanon_answer bpfcanon_insn_groups(uint32_t order, const uint8_t *bytes, size_t len);
 
 /*
- * Compares two inputs: BPFCANON_DONE if they hold the same types in the same order, or the same
- * instructions, that is, if their canonical bytes are equal, and BPFCANON_DIFFERENT if they don't.
- * Each program has its own byte order. Comparing instructions allocates no memory.
+ * Compares two inputs: BPFCANON_STATUS_DONE if they hold the same types in the same order, or the
+ * same instructions, that is, if their canonical bytes are equal, and BPFCANON_STATUS_DIFFERENT if
+ * they don't. Each program has its own byte order. Comparing instructions allocates no memory.
  *
- * Statuses: BPFCANON_DONE, BPFCANON_DIFFERENT, BPFCANON_FAULT, BPFCANON_FAULT_SECOND, for BTF
- * BPFCANON_MEMORY, and for instructions BPFCANON_ORDER.
+ * Statuses: DONE, DIFFERENT, FAULT, FAULT_SECOND, for BTF OUT_OF_MEMORY, and for instructions
+ * ORDER.
  */
 bpfcanon_answer bpfcanon_btf_same(const uint8_t *first, size_t first_len, const uint8_t *second,
                                   size_t second_len);
@@ -516,84 +592,111 @@ bpfcanon_answer bpfcanon_insn_same(uint32_t first_order, const uint8_t *first, s
 
 /*
  * Writes the listing of instructions: a line for each, with a newline, and no NUL at the end. Sets
- * `written`. Room of 4 * `len` bytes is always enough.
+ * `written`. A capacity of 4 * `len` bytes is always enough.
  *
- * Statuses: BPFCANON_DONE, BPFCANON_FAULT, BPFCANON_MEMORY, BPFCANON_ROOM, BPFCANON_ORDER.
+ * Statuses: DONE, FAULT, OUT_OF_MEMORY, ROOM, ORDER.
  */
 bpfcanon_answer bpfcanon_insn_show(uint32_t order, const uint8_t *bytes, size_t len, char *out,
-                                   size_t room);
+                                   size_t capacity);
 
 /*
- * Writes the instructions of a listing in the byte order `to`. A fault sets `line` and not `pos`,
- * and its cause is of enum bpfcanon_line_cause. Sets `written`. Room of 2 * `len` bytes is always
- * enough.
+ * Writes the instructions of a listing in the byte order `to`. A fault sets `line` and not
+ * `offset`, and its cause is of enum bpfcanon_line_cause. Sets `written`. A capacity of 2 * `len`
+ * bytes is always enough.
  *
- * Statuses: BPFCANON_DONE, BPFCANON_FAULT, BPFCANON_MEMORY, BPFCANON_ROOM, BPFCANON_ORDER.
+ * Statuses: DONE, FAULT, OUT_OF_MEMORY, ROOM, ORDER.
  */
 bpfcanon_answer bpfcanon_insn_read(uint32_t to, const char *text, size_t len, uint8_t *out,
-                                   size_t room);
+                                   size_t capacity);
 
 /*
  * Writes the listing of the types of BTF: a line for each type and for each of its items, with a
  * newline, and no NUL at the end. Sets `written`. It may be many times as long as the input, since
  * types can share names.
  *
- * Statuses: BPFCANON_DONE, BPFCANON_FAULT, BPFCANON_MEMORY, BPFCANON_ROOM.
+ * Statuses: DONE, FAULT, OUT_OF_MEMORY, ROOM.
  */
-bpfcanon_answer bpfcanon_btf_show(const uint8_t *bytes, size_t len, char *out, size_t room);
+bpfcanon_answer bpfcanon_btf_show(const uint8_t *bytes, size_t len, char *out, size_t capacity);
 
 /*
  * Writes the complete instructions at the start of a buffer in the byte order `to`, for a stream
  * that is read in pieces. Sets `read` and `written`, which are equal. If the status is
- * BPFCANON_DONE, fewer than 16 bytes remain after `read`; they may begin an instruction, so prepend
- * them to the next piece. At the end of the stream pass what remains to bpfcanon_insn_canon, which
- * reports BPFCANON_INSN_TRUNCATED if anything does. If the status is BPFCANON_FAULT, the fault
- * remains whatever bytes follow, `pos` is its offset in the bytes of this call, and the
- * instructions before it are written. Room of `len` bytes is always enough.
+ * BPFCANON_STATUS_DONE, fewer than 16 bytes remain after `read`; they may begin an instruction, so
+ * prepend them to the next piece. At the end of the stream pass what remains to
+ * bpfcanon_insn_canon, which reports BPFCANON_INSN_CAUSE_TRUNCATED if anything does. If the status
+ * is BPFCANON_STATUS_FAULT, the fault remains whatever bytes follow, `offset` is its offset in the
+ * bytes of this call, and the instructions before it are written. A capacity of `len` bytes is
+ * always enough.
  *
- * Statuses: BPFCANON_DONE, BPFCANON_FAULT, BPFCANON_MEMORY, BPFCANON_ROOM, BPFCANON_ORDER.
+ * Statuses: DONE, FAULT, OUT_OF_MEMORY, ROOM, ORDER.
  */
 bpfcanon_answer bpfcanon_insn_front(uint32_t order, uint32_t to, const uint8_t *bytes, size_t len,
-                                    uint8_t *out, size_t room);
+                                    uint8_t *out, size_t capacity);
 
 /*
  * Decodes instructions into records at the start of `out`, in order. Sets `written`. `written`,
- * `needed` and `room` are numbers of records. Room of `len` / 8 records is always enough. Allocates
- * nothing.
+ * `needed` and `capacity` are numbers of records. A capacity of `len` / 8 records is always enough.
+ * Allocates nothing.
  *
- * Statuses: BPFCANON_DONE, BPFCANON_FAULT, BPFCANON_ROOM, BPFCANON_ORDER, BPFCANON_ALIGNMENT.
+ * Statuses: DONE, FAULT, ROOM, ORDER, ALIGNMENT.
  */
 bpfcanon_answer bpfcanon_insn_decode(uint32_t order, const uint8_t *bytes, size_t len,
-                                     bpfcanon_insn *out, size_t room);
+                                     bpfcanon_insn *out, size_t capacity);
 
 /*
  * Encodes the instructions that records say in the byte order `to`. The fields `len`, `group`,
- * `zero` and `pos` aren't read; the other fields that a form doesn't have have to be 0. Sets
- * `written`, in bytes. Room of 16 * `count` bytes is always enough. With BPFCANON_FAULT `pos` is
- * the index of the first record that says no instruction, and `cause` is 0, whose name is "Record".
- * Allocates nothing.
+ * `zero` and `offset` aren't read; the other fields that a form doesn't have have to be 0. Sets
+ * `written`, in bytes. A capacity of 16 * `count` bytes is always enough. With
+ * BPFCANON_STATUS_FAULT `offset` is the index of the first record that says no instruction, and
+ * `cause` is 0, whose name is "Record". Allocates nothing.
  *
- * Statuses: BPFCANON_DONE, BPFCANON_FAULT, BPFCANON_ROOM, BPFCANON_ORDER, BPFCANON_ALIGNMENT.
+ * Statuses: DONE, FAULT, ROOM, ORDER, ALIGNMENT.
  */
 bpfcanon_answer bpfcanon_insn_encode(uint32_t to, const bpfcanon_insn *insns, size_t count,
-                                     uint8_t *out, size_t room);
+                                     uint8_t *out, size_t capacity);
 
 /*
  * Decodes the types of BTF into records at the start of `types`, in order, and the items of all of
  * them into records at the start of `items`. Sets `types`, and `written` to the number of items.
- * With BPFCANON_ROOM, if either array is too short, `types` and `needed` are the numbers of types
- * and of items. Room of `len` / 12 types and `len` / 8 items is always enough. Names stay in
- * `bytes`.
+ * With BPFCANON_STATUS_ROOM, if either array is too short, `types` and `needed` are the numbers of
+ * types and of items. A capacity of `len` / 12 types and `len` / 8 items is always enough. Names
+ * stay in `bytes`.
  *
- * Statuses: BPFCANON_DONE, BPFCANON_FAULT, BPFCANON_MEMORY, BPFCANON_ROOM, BPFCANON_ALIGNMENT.
+ * Statuses: DONE, FAULT, OUT_OF_MEMORY, ROOM, ALIGNMENT.
  */
 bpfcanon_answer bpfcanon_btf_decode(const uint8_t *bytes, size_t len, bpfcanon_btf_type *types,
-                                    size_t types_room, bpfcanon_btf_item *items,
-                                    size_t items_room);
+                                    size_t types_capacity, bpfcanon_btf_item *items,
+                                    size_t items_capacity);
 
 /*
- * Writes the canonical file of a BPF object file (docs/OBJECTS.md): an object file that loaders read
- * like the original, except for source lines, and whose bytes depend only on the code, data,
+ * Writes the canonical form of the BTF of records in the byte order `to`. If `to` is
+ * BPFCANON_ORDER_LITTLE these are the canonical bytes. Sets `written`, in bytes. Records are as
+ * bpfcanon_btf_decode sets them, with names in `strings`, which may be the input that was decoded:
+ *   - `name` is the offset of a name of `name_len` bytes, and a NUL follows it in `strings`. Names
+ *     may share bytes. If `name_len` is 0 there is no name, and `name` isn't read.
+ *   - The items of a type are `items` items from `first` on, which isn't read if `items` is 0.
+ *     Types may share items.
+ *   - The other fields that a kind doesn't have have to be 0.
+ *
+ * With BPFCANON_STATUS_FAULT `offset` is the index of a type that can't be encoded, also if one of
+ * its items is at fault, and `cause` is that of the first of these faults:
+ *   - A type has no kind (BPFCANON_BTF_CAUSE_KIND_NUMBER), its items run past the array
+ *     (_TAIL_CUT), or a name runs past `strings` or has no NUL (_NAME_RANGE); the names so far are
+ *     more than 16 MiB apart (_STRING_LENGTH), or the records longer than 32 MiB (_TYPE_LENGTH).
+ *   - The first fault of the BTF, as bpfcanon_btf_canon would report it.
+ *   - 0: a field that has to be 0 isn't, a number is too large for its field in BTF, an item is of
+ *     another kind, or a name has a NUL.
+ *
+ * Statuses: DONE, FAULT, OUT_OF_MEMORY, ROOM, ORDER, ALIGNMENT.
+ */
+bpfcanon_answer bpfcanon_btf_encode(uint32_t to, const bpfcanon_btf_type *types,
+                                    size_t types_count, const bpfcanon_btf_item *items,
+                                    size_t items_count, const char *strings, size_t strings_len,
+                                    uint8_t *out, size_t capacity);
+
+/*
+ * Writes the canonical file of a BPF object file (docs/OBJECTS.md): an object file that loaders
+ * read like the original, except for source lines, and whose bytes depend only on the code, data,
  * relocations, symbols, types, functions and CO-RE relocations. Sets `written`. It may be longer
  * than the original, but not than BPFCANON_OBJECT_MAX.
  *
@@ -606,33 +709,34 @@ bpfcanon_answer bpfcanon_btf_decode(const uint8_t *bytes, size_t len, bpfcanon_b
  * bpftool and pyelftools say of the originals (tests/judges in the repository). Of other loaders
  * nothing is known.
  *
- * Statuses: BPFCANON_DONE, BPFCANON_FAULT, BPFCANON_MEMORY, BPFCANON_ROOM.
+ * Statuses: DONE, FAULT, OUT_OF_MEMORY, ROOM.
  */
-bpfcanon_answer bpfcanon_object_canon(const uint8_t *bytes, size_t len, uint8_t *out, size_t room);
+bpfcanon_answer bpfcanon_object_canon(const uint8_t *bytes, size_t len, uint8_t *out,
+                                      size_t capacity);
 
 /*
- * Compares two object files: BPFCANON_DONE if they hold the same parts, that is, if their canonical
- * files are equal, and BPFCANON_DIFFERENT if they don't.
+ * Compares two object files: BPFCANON_STATUS_DONE if they hold the same parts, that is, if their
+ * canonical files are equal, and BPFCANON_STATUS_DIFFERENT if they don't.
  *
- * Statuses: BPFCANON_DONE, BPFCANON_DIFFERENT, BPFCANON_FAULT, BPFCANON_FAULT_SECOND,
- * BPFCANON_MEMORY.
+ * Statuses: DONE, DIFFERENT, FAULT, FAULT_SECOND, OUT_OF_MEMORY.
  */
 bpfcanon_answer bpfcanon_object_same(const uint8_t *first, size_t first_len, const uint8_t *second,
                                      size_t second_len);
 
 /*
- * Writes the key of an object file, which is the SHA-256 of its canonical file. Sets `written`, which
- * is BPFCANON_KEY_SIZE.
+ * Writes the key of an object file, which is the SHA-256 of its canonical file. Sets `written`,
+ * which is BPFCANON_KEY_SIZE.
  *
- * Statuses: BPFCANON_DONE, BPFCANON_FAULT, BPFCANON_MEMORY, BPFCANON_ROOM.
+ * Statuses: DONE, FAULT, OUT_OF_MEMORY, ROOM.
  */
-bpfcanon_answer bpfcanon_object_key(const uint8_t *bytes, size_t len, uint8_t *out, size_t room);
+bpfcanon_answer bpfcanon_object_key(const uint8_t *bytes, size_t len, uint8_t *out,
+                                    size_t capacity);
 
 /*
  * Checks that an object file has a canonical file, or reports its first fault. Its code isn't
  * checked: bpfcanon_insn_groups does that for the bytes of a section.
  *
- * Statuses: BPFCANON_DONE, BPFCANON_FAULT, BPFCANON_MEMORY.
+ * Statuses: DONE, FAULT, OUT_OF_MEMORY.
  */
 bpfcanon_answer bpfcanon_object_check(const uint8_t *bytes, size_t len);
 
@@ -641,9 +745,10 @@ bpfcanon_answer bpfcanon_object_check(const uint8_t *bytes, size_t len);
 /*
  * Write the same output into a block from malloc and set `*out` to it: `written` bytes and, after a
  * listing, a NUL that `written` doesn't count. Free the block with bpfcanon_free. `*out` is NULL
- * unless the status is BPFCANON_DONE, and then it isn't, even if `written` is 0. The statuses are
- * those of the call without `_new`, except BPFCANON_ROOM and BPFCANON_ALIGNMENT. A fault is reported
- * even if there is no memory for the block; to find one in instructions takes no memory.
+ * unless the status is BPFCANON_STATUS_DONE, and then it isn't, even if `written` is 0. The
+ * statuses are those of the call without `_new`, except BPFCANON_STATUS_ROOM and
+ * BPFCANON_STATUS_ALIGNMENT. A fault is reported even if there is no memory for the block; to find
+ * one in instructions takes no memory.
  */
 bpfcanon_answer bpfcanon_btf_canon_new(uint32_t to, const uint8_t *bytes, size_t len,
                                        uint8_t **out);
@@ -655,9 +760,15 @@ bpfcanon_answer bpfcanon_insn_read_new(uint32_t to, const char *text, size_t len
 bpfcanon_answer bpfcanon_btf_show_new(const uint8_t *bytes, size_t len, char **out);
 bpfcanon_answer bpfcanon_object_canon_new(const uint8_t *bytes, size_t len, uint8_t **out);
 
+/* Likewise. The status may be BPFCANON_STATUS_ALIGNMENT. */
+bpfcanon_answer bpfcanon_btf_encode_new(uint32_t to, const bpfcanon_btf_type *types,
+                                        size_t types_count, const bpfcanon_btf_item *items,
+                                        size_t items_count, const char *strings,
+                                        size_t strings_len, uint8_t **out);
+
 /*
  * Likewise with records in place of bytes, which `written` counts, and for BTF with two blocks. The
- * status of both may be BPFCANON_MEMORY.
+ * status of both may be BPFCANON_STATUS_OUT_OF_MEMORY.
  */
 bpfcanon_answer bpfcanon_insn_decode_new(uint32_t order, const uint8_t *bytes, size_t len,
                                          bpfcanon_insn **out);
@@ -675,8 +786,8 @@ const char *bpfcanon_version(void);
 /*
  * The name of a status or cause, for example "Truncated", and a sentence that explains it, without
  * a full stop. The names and sentences of causes are those of docs/FAULTS.md; the cause 0 of
- * bpfcanon_insn_encode has one too, and bpfcanon_object_cause_name and _text also give those of enum
- * bpfcanon_btf_cause. NULL for any other number. The strings are static.
+ * bpfcanon_insn_encode has one too, and bpfcanon_object_cause_name and _text also give those of
+ * enum bpfcanon_btf_cause. NULL for any other number. The strings are static.
  */
 const char *bpfcanon_status_name(uint32_t status);
 const char *bpfcanon_status_text(uint32_t status);

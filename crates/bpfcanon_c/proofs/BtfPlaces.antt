@@ -10,9 +10,9 @@ use Rattle.std.proofs.lemmas.List.Sums.{sum_by-cons, sum_by_push}
 use Rattle.std.proofs.lemmas.Option.{get_or_from_slice_get}
 use Rattle.btf_raw.specs.Kinds.{fixed_words, item_words}
 use Rattle.btf_types.specs.Values.{TypeHead, KStruct, KUnion, KEnum, KFuncProto, KDatasec, KEnum64, TypeItem, Member, EnumValue, Value64, Param, Entry, TypeRecord}
-use Rattle.btf_types.specs.Good.{IsGood, IsGoodRecord, ItemOf, facts, record_size}
-use Rattle.btf_types.specs.{Spelling.kind_number, tables.TableWords.record_at}
-use Rattle.btf_types.proofs.Spelled.{fixed_is}
+use Rattle.btf_types.specs.Valid.{IsValid, IsValidRecord, ItemOf, facts, record_size}
+use Rattle.btf_types.specs.{Encoding.kind_number, tables.TableWords.record_at}
+use Rattle.btf_types.proofs.Encoded.{fixed_is}
 use Rattle.bpfcanon_c.specs.BtfRows.{PlacedType, item_parts, items_from, items_of, placed, placed_items}
 use Rattle.bpfcanon_c.specs.BtfRest.{head_bytes, item_bytes, item_kind}
 use Rattle.bpfcanon_c.proofs.BtfRows.{more_at, record_is}
@@ -95,13 +95,13 @@ kind_fits (KFuncProto target) (Param n t) f = refl
 kind_fits (KDatasec name size) (Entry target offset bytes) f = refl
 kind_fits h i f = absurd f
 
-good_at : (v : List TypeRecord) (k : ℕ) → IsGood v → k < length v → IsGoodRecord (facts v) (record_at v (k + 1))
-good_at v k good h =
+valid_at : (v : List TypeRecord) (k : ℕ) → IsValid v → k < length v → IsValidRecord (facts v) (record_at v (k + 1))
+valid_at v k valid h =
     let r = record_at v (k + 1) in
-    subst (λ (x : TypeRecord). IsGoodRecord (facts v) x) (get_or_from_slice_get v k r r (record_is v k h)) (All-get_or (IsGoodRecord (facts v)) v k r h good.each)
+    subst (λ (x : TypeRecord). IsValidRecord (facts v) x) (get_or_from_slice_get v k r r (record_is v k h)) (All-get_or (IsValidRecord (facts v)) v k r h valid.each)
 
-pub kinds_fit : (v : List TypeRecord) (k : ℕ) → IsGood v → k < length v → All (λ i. (item_parts i).kind ≡ item_kind (record_at v (k + 1)).head) (record_at v (k + 1)).items
-kinds_fit v k good h = λ n d inside. kind_fits (record_at v (k + 1)).head _ ((good_at v k good h).items_of n d inside)
+pub kinds_fit : (v : List TypeRecord) (k : ℕ) → IsValid v → k < length v → All (λ i. (item_parts i).kind ≡ item_kind (record_at v (k + 1)).head) (record_at v (k + 1)).items
+kinds_fit v k valid h = λ n d inside. kind_fits (record_at v (k + 1)).head _ ((valid_at v k valid h).items_of n d inside)
 
 -- the length of an item is that which the items of its kind have
 item_size : (h : TypeHead) (i : TypeItem) → ItemOf h i → item_bytes (item_kind h) ≡ 4 * item_words (kind_number h)
@@ -129,11 +129,11 @@ pub record ItemsPlaced (at first : ℕ) (r : TypeRecord) : Type 0 where
   pub items : items_from (at + head_bytes r.head) (item_bytes (item_kind r.head)) r.items ≡ placed_items (record { at = at; first = first; type = r })
   pub end : at + head_bytes r.head + item_bytes (item_kind r.head) * length r.items ≡ at + record_size r
 
-pub items_placed : (at first : ℕ) (v : List TypeRecord) (k : ℕ) → IsGood v → k < length v → ItemsPlaced at first (record_at v (k + 1))
-items_placed at first v k good h =
+pub items_placed : (at first : ℕ) (v : List TypeRecord) (k : ℕ) → IsValid v → k < length v → ItemsPlaced at first (record_at v (k + 1))
+items_placed at first v k valid h =
     let r = record_at v (k + 1) in
     let kind = kind_number r.head in
-    let same = same_items r.head (at + head_bytes r.head) r.items (good_at v k good h).items_of in
+    let same = same_items r.head (at + head_bytes r.head) r.items (valid_at v k valid h).items_of in
     let begin : at + head_bytes r.head ≡ at + 4 * (3 + fixed_words kind) = omega (arith, fixed_is r.head) in
     let size : 4 * item_words kind * length r.items ≡ 4 * (item_words kind * length r.items) = mul_assoc 4 (item_words kind) (length r.items) in
     record {

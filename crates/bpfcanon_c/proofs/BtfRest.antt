@@ -11,8 +11,8 @@ use Rattle.bpf_words.proofs.WordLemmas.{word32_at-drop}
 use Rattle.btf_raw.specs.{Frames.bytes_of, Header.HasNulEnds, Header.strings_at as header_strings, Kinds.flag_of, Names.TextAt, Names.NameAt}
 use Rattle.btf_raw.proofs.Frames.{length-bytes_of, word32_at-bytes_of}
 use Rattle.btf_types.specs.Values.{TypeItem, Member, EnumValue, Value64, Param, Entry, TypeRecord}
-use Rattle.btf_types.specs.{Names.head_name, Names.item_name, Spelling.IsRecord, Spelling.Spells, Spelling.ItemSpells, Spelling.MemberWord, Spelling.head_tail, Spelling.head_third, Spelling.info, Spelling.kind_number, Spelling.record_vlen}
-use Rattle.btf_types.proofs.Spelled.{info_parts, kind_below, vlen_below, flag_below}
+use Rattle.btf_types.specs.{Names.head_name, Names.item_name, Encoding.IsRecord, Encoding.Encodes, Encoding.ItemEncodes, Encoding.MemberWord, Encoding.head_tail, Encoding.head_third, Encoding.info, Encoding.kind_number, Encoding.record_vlen}
+use Rattle.btf_types.proofs.Encoded.{info_parts, kind_below, vlen_below, flag_below}
 use Rattle.bpfcanon_c.specs.declared.btf_rows.ItemRow.{ItemRow}
 use Rattle.bpfcanon_c.specs.BtfRows.{bare_item, item_name_off, item_parts}
 use Rattle.bpfcanon_c.specs.BtfRest.{Rest, head_bytes, item_bytes, item_name_at, words_row, low_part, high_part}
@@ -90,9 +90,9 @@ record FirstWords (o : Order) (bytes : List ℕ) (at strings_at flag first secon
 
 first_words : (o : Order) (bytes : List ℕ) (at strings_at flag : ℕ) (i : TypeItem) (is : List TypeItem) (v : List TypeRecord) (r : Rest o bytes at strings_at flag (i ∷ is) v)
     (first second : ℕ) (more : List ℕ) (words : List (List ℕ))
-    → r.words ≡ (first ∷ second ∷ more) ∷ words → AllZip (ItemSpells r.strings flag) is words → FirstWords o bytes at strings_at flag first second more is v
+    → r.words ≡ (first ∷ second ∷ more) ∷ words → AllZip (ItemEncodes r.strings flag) is words → FirstWords o bytes at strings_at flag first second more is v
 first_words o bytes at strings_at flag i is v r first second more words e zip =
-    let after = concat r.spellings ++ r.tail in
+    let after = concat r.encodings ++ r.tail in
     let front = first ∷ second ∷ more in
     let here : drop at bytes ≡ bytes_of o (front ++ concat words) ++ after = r.here ∙ ap (λ (x : List (List ℕ)). bytes_of o (concat x) ++ after) e in
     let fit : (i : ℕ) → slice_index (front ++ concat words) i < 2 ^ 32 = subst (λ (x : List (List ℕ)). (i : ℕ) → slice_index (concat x) i < 2 ^ 32) e r.fit in
@@ -111,7 +111,7 @@ first_words o bytes at strings_at flag i is v r first second more words e zip =
       rest = record {
         strings = r.strings;
         words = words;
-        spellings = r.spellings;
+        encodings = r.encodings;
         tail = r.tail;
         items = zip;
         fit = all.fit;
@@ -147,12 +147,12 @@ record ZipCons (strings : List ℕ) (flag : ℕ) (i : TypeItem) (is : List TypeI
   pub first : List ℕ
   pub others : List (List ℕ)
   pub cut : words ≡ first ∷ others
-  pub spells : ItemSpells strings flag i first
-  pub zip : AllZip (ItemSpells strings flag) is others
+  pub encodes : ItemEncodes strings flag i first
+  pub zip : AllZip (ItemEncodes strings flag) is others
 
-zip_cons : (strings : List ℕ) (flag : ℕ) (i : TypeItem) (is : List TypeItem) (words : List (List ℕ)) → AllZip (ItemSpells strings flag) (i ∷ is) words → ZipCons strings flag i is words
+zip_cons : (strings : List ℕ) (flag : ℕ) (i : TypeItem) (is : List TypeItem) (words : List (List ℕ)) → AllZip (ItemEncodes strings flag) (i ∷ is) words → ZipCons strings flag i is words
 zip_cons strings flag i is [] h = absurd h
-zip_cons strings flag i is (w ∷ words) h = record { first = w; others = words; cut = refl; spells = h.0; zip = h.1 }
+zip_cons strings flag i is (w ∷ words) h = record { first = w; others = words; cut = refl; encodes = h.0; zip = h.1 }
 
 -- an item whose first field is its name
 taken_named : (o : Order) (bytes : List ℕ) (at strings_at flag : ℕ) (i : TypeItem) (is : List TypeItem) (v : List TypeRecord) (r : Rest o bytes at strings_at flag (i ∷ is) v)
@@ -176,7 +176,7 @@ taken_named o bytes at strings_at flag i is v r offset second more w len place n
 taken : (o : Order) (bytes : List ℕ) (at strings_at flag : ℕ) (i : TypeItem) (is : List TypeItem) (v : List TypeRecord) (r : Rest o bytes at strings_at flag (i ∷ is) v)
     → ZipCons r.strings flag i is r.words → TakesItem o bytes at strings_at flag i is v
 taken o bytes at strings_at flag (Member name target bit_offset width) is v r z =
-    let s = z.spells in
+    let s = z.encodes in
     let i = Member name target bit_offset width in
     let w = first_words o bytes at strings_at flag i is v r s.0 target (s.1 ∷ []) z.others (z.cut ∙ ap (λ (x : List ℕ). x ∷ z.others) s.4) z.zip in
     let p = parts_of flag bit_offset width s.1 s.3 in
@@ -187,12 +187,12 @@ taken o bytes at strings_at flag (Member name target bit_offset width) is v r z 
     ∙ ap (λ (c : ℕ). row target (low_part flag c) (high_part flag c)) (sym (w.third_word s.1 refl))
     ∙ ap (λ (t : ℕ). row t (low_part flag (word32_at o bytes (at + 8))) (high_part flag (word32_at o bytes (at + 8)))) (sym w.second_word))
 taken o bytes at strings_at flag (EnumValue name value) is v r z =
-    let s = z.spells in
+    let s = z.encodes in
     let i = EnumValue name value in
     let w = first_words o bytes at strings_at flag i is v r s.0 value [] z.others (z.cut ∙ ap (λ (x : List ℕ). x ∷ z.others) s.2) z.zip in
     taken_named o bytes at strings_at flag i is v r s.0 value [] w refl refl s.1 (ap (λ (n : ℕ). item_parts (EnumValue name n)) (sym w.second_word))
 taken o bytes at strings_at flag (Value64 name value) is v r z =
-    let s = z.spells in
+    let s = z.encodes in
     let i = Value64 name value in
     let low = value % 2 ^ 32 in
     let high = value / 2 ^ 32 in
@@ -200,13 +200,13 @@ taken o bytes at strings_at flag (Value64 name value) is v r z =
     let whole : value ≡ word32_at o bytes (at + 4) + 2 ^ 32 * word32_at o bytes (at + 8) = omega (arith, w.second_word, w.third_word high refl) in
     taken_named o bytes at strings_at flag i is v r s.0 low (high ∷ []) w refl refl s.1 (ap (λ (n : ℕ). item_parts (Value64 name n)) whole)
 taken o bytes at strings_at flag (Param name target) is v r z =
-    let s = z.spells in
+    let s = z.encodes in
     let i = Param name target in
     let w = first_words o bytes at strings_at flag i is v r s.0 target [] z.others (z.cut ∙ ap (λ (x : List ℕ). x ∷ z.others) s.2) z.zip in
     taken_named o bytes at strings_at flag i is v r s.0 target [] w refl refl s.1 (ap (λ (n : ℕ). item_parts (Param name n)) (sym w.second_word))
 taken o bytes at strings_at flag (Entry target offset size) is v r z =
     let i = Entry target offset size in
-    let w = first_words o bytes at strings_at flag i is v r target offset (size ∷ []) z.others (z.cut ∙ ap (λ (x : List ℕ). x ∷ z.others) z.spells) z.zip in
+    let w = first_words o bytes at strings_at flag i is v r target offset (size ∷ []) z.others (z.cut ∙ ap (λ (x : List ℕ). x ∷ z.others) z.encodes) z.zip in
     let name = empty_name r.strings r.ends in
     record {
       room = w.inside;
@@ -279,7 +279,7 @@ next_item o bytes at strings_at kind flag (d ∷ is) k v each h r =
     of_kind o bytes at strings_at kind flag all k v i there (All-get_or (λ i. (item_parts i).kind ≡ kind) all k d h each)
     (take_item o bytes at strings_at flag i (drop (k + 1) all) v (subst (λ (xs : List TypeItem). Rest o bytes at strings_at flag xs v) (cut_at all k i h there) r))
 
-no_words : (strings : List ℕ) (flag : ℕ) (words : List (List ℕ)) → AllZip (ItemSpells strings flag) [] words → AllZip (ItemSpells strings 0) [] words
+no_words : (strings : List ℕ) (flag : ℕ) (words : List (List ℕ)) → AllZip (ItemEncodes strings flag) [] words → AllZip (ItemEncodes strings 0) [] words
 no_words strings flag [] h = h
 no_words strings flag (w ∷ words) h = absurd h
 
@@ -291,7 +291,7 @@ ended o bytes at strings_at flag is k v h r =
     record {
       strings = left.strings;
       words = left.words;
-      spellings = left.spellings;
+      encodings = left.encodings;
       tail = left.tail;
       items = no_words left.strings flag left.words left.items;
       fit = left.fit;
@@ -313,34 +313,34 @@ pub record TakesHead (o : Order) (bytes : List ℕ) (at strings_at : ℕ) (r : T
   pub few : length r.items < 2 ^ 16
   pub rest : Rest o bytes (at + head_bytes r.head) strings_at (flag_of (word32_at o bytes (at + 4))) r.items v
 
--- the spelling of the first record, and of the others, where no item is left
-record RecordCons (o : Order) (strings : List ℕ) (r : TypeRecord) (v : List TypeRecord) (words spellings : List (List ℕ)) : Type 0 where
+-- the encoding of the first record, and of the others, where no item is left
+record RecordCons (o : Order) (strings : List ℕ) (r : TypeRecord) (v : List TypeRecord) (words encodings : List (List ℕ)) : Type 0 where
   pub none : words ≡ []
   pub fields : List ℕ
   pub others : List (List ℕ)
-  pub cut : spellings ≡ bytes_of o fields ∷ others
-  pub spells : Spells strings r fields
+  pub cut : encodings ≡ bytes_of o fields ∷ others
+  pub encodes : Encodes strings r fields
   pub zip : AllZip (IsRecord o strings) v others
 
-record_cons : (o : Order) (strings : List ℕ) (flag : ℕ) (r : TypeRecord) (v : List TypeRecord) (words spellings : List (List ℕ)) → AllZip (ItemSpells strings flag) [] words
-    → AllZip (IsRecord o strings) (r ∷ v) spellings → RecordCons o strings r v words spellings
-record_cons o strings flag r v (w ∷ words) spellings h z = absurd h
+record_cons : (o : Order) (strings : List ℕ) (flag : ℕ) (r : TypeRecord) (v : List TypeRecord) (words encodings : List (List ℕ)) → AllZip (ItemEncodes strings flag) [] words
+    → AllZip (IsRecord o strings) (r ∷ v) encodings → RecordCons o strings r v words encodings
+record_cons o strings flag r v (w ∷ words) encodings h z = absurd h
 record_cons o strings flag r v [] [] h z = absurd z
-record_cons o strings flag r v [] (s ∷ spellings) h z =
-    record { none = refl; fields = z.0.0; others = spellings; cut = ap (λ (x : List ℕ). x ∷ spellings) z.0.2; spells = z.0.1; zip = z.1 }
+record_cons o strings flag r v [] (s ∷ encodings) h z =
+    record { none = refl; fields = z.0.0; others = encodings; cut = ap (λ (x : List ℕ). x ∷ encodings) z.0.2; encodes = z.0.1; zip = z.1 }
 
 pub take_head : (o : Order) (bytes : List ℕ) (at strings_at : ℕ) (r : TypeRecord) (v : List TypeRecord) → Rest o bytes at strings_at 0 [] (r ∷ v)
     → TakesHead o bytes at strings_at r v
 take_head o bytes at strings_at r v rest =
-    let c = record_cons o rest.strings 0 r v rest.words rest.spellings rest.items rest.types in
-    let s = c.spells in
+    let c = record_cons o rest.strings 0 r v rest.words rest.encodings rest.items rest.types in
+    let s = c.encodes in
     let after = concat c.others ++ rest.tail in
     let word = info (kind_number r.head) (record_vlen r) s.flag in
     let more = word ∷ head_third r.head ∷ head_tail r.head in
     let front = s.name_offset ∷ more in
     let here : drop at bytes ≡ bytes_of o (front ++ concat s.item_words) ++ after =
     rest.here
-    ∙ ap (λ (x : List (List ℕ)). bytes_of o (concat x) ++ (concat rest.spellings ++ rest.tail)) c.none
+    ∙ ap (λ (x : List (List ℕ)). bytes_of o (concat x) ++ (concat rest.encodings ++ rest.tail)) c.none
     ∙ ap (λ (x : List (List ℕ)). concat x ++ rest.tail) c.cut
     ∙ append_assoc (bytes_of o c.fields) (concat c.others) rest.tail
     ∙ ap (λ (x : List ℕ). bytes_of o x ++ after) s.whole
@@ -349,7 +349,7 @@ take_head o bytes at strings_at r v rest =
     let w = words_here o bytes at s.name_offset more (concat s.item_words) after here fit in
     let one = words_here o bytes at s.name_offset [] (more ++ concat s.item_words) after here fit in
     let two = words_here o bytes (at + 4) word (head_third r.head ∷ head_tail r.head) (concat s.item_words) after one.left one.fit in
-    let parts = info_parts (kind_number r.head) (record_vlen r) s.flag (kind_below r.head) (vlen_below r.head r.items s.items_fit) (flag_below r.head s.flag s.flag_spells) in
+    let parts = info_parts (kind_number r.head) (record_vlen r) s.flag (kind_below r.head) (vlen_below r.head r.items s.items_fit) (flag_below r.head s.flag s.flag_encodes) in
     let flag : flag_of (word32_at o bytes (at + 4)) ≡ s.flag = ap flag_of two.word ∙ parts.flag in
     let f = name_fits rest.strings s.name_offset (head_name r.head) s.name.text in
     let len : 4 * length front ≡ head_bytes r.head = omega arith in
@@ -362,7 +362,7 @@ take_head o bytes at strings_at r v rest =
       rest = subst (λ (f : ℕ). Rest o bytes (at + head_bytes r.head) strings_at f r.items v) (sym flag) (record {
         strings = rest.strings;
         words = s.item_words;
-        spellings = c.others;
+        encodings = c.others;
         tail = rest.tail;
         items = s.items;
         fit = w.fit;

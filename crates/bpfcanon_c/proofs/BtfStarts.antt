@@ -7,19 +7,19 @@ use Rattle.btf_raw.specs.declared.header.Header.{Header}
 use Rattle.btf_raw.specs.{Header.Cut, Header.header, Header.part, Names.TextAt, ReadHeader.ReadsHeader}
 use Rattle.btf_raw.proofs.{Cuts.cut_unique, Cuts.length-header, Frames.length-bytes_of}
 use Rattle.btf_types.specs.Values.{TypeItem, Member, EnumValue, Value64, Param, Entry, TypeRecord}
-use Rattle.btf_types.specs.{Denotes.Denotes, Spelling.IsRecord, Spelling.ItemSpells, Spelling.head_tail}
+use Rattle.btf_types.specs.{Denotes.Denotes, Encoding.IsRecord, Encoding.ItemEncodes, Encoding.head_tail}
 use Rattle.bpfcanon_c.specs.{BtfRest.Rest, BtfRows.items_of}
 
 -- ---- lengths
 
-item_long : (strings : List ℕ) (flag : ℕ) (i : TypeItem) (words : List ℕ) → ItemSpells strings flag i words → 2 ≤ length words
+item_long : (strings : List ℕ) (flag : ℕ) (i : TypeItem) (words : List ℕ) → ItemEncodes strings flag i words → 2 ≤ length words
 item_long strings flag (Member name target bit_offset width) words s = omega (arith, ap length s.4)
 item_long strings flag (EnumValue name value) words s = omega (arith, ap length s.2)
 item_long strings flag (Value64 name value) words s = omega (arith, ap length s.2)
 item_long strings flag (Param name target) words s = omega (arith, ap length s.2)
 item_long strings flag (Entry target offset size) words s = omega (arith, ap length s)
 
-items_long : (strings : List ℕ) (flag : ℕ) (is : List TypeItem) (words : List (List ℕ)) → AllZip (ItemSpells strings flag) is words → 2 * length is ≤ length (concat words)
+items_long : (strings : List ℕ) (flag : ℕ) (is : List TypeItem) (words : List (List ℕ)) → AllZip (ItemEncodes strings flag) is words → 2 * length is ≤ length (concat words)
 items_long strings flag [] words h = omega arith
 items_long strings flag (i ∷ is) [] h = absurd h
 items_long strings flag (i ∷ is) (w ∷ words) h = omega (arith, item_long strings flag i w h.0, items_long strings flag is words h.1, length-append w (concat words))
@@ -28,12 +28,12 @@ record_long : (o : Order) (strings : List ℕ) (r : TypeRecord) (bytes : List �
 record_long o strings r bytes s =
     omega (arith, ap length s.2, length-bytes_of o s.0, ap length s.1.whole, length-append (head_tail r.head) (concat s.1.item_words), items_long strings s.1.flag r.items s.1.item_words s.1.items)
 
-records_long : (o : Order) (strings : List ℕ) (v : List TypeRecord) (spellings : List (List ℕ)) → AllZip (IsRecord o strings) v spellings
-    → 12 * length v + 8 * length (items_of v) ≤ length (concat spellings)
-records_long o strings [] spellings h = omega arith
+records_long : (o : Order) (strings : List ℕ) (v : List TypeRecord) (encodings : List (List ℕ)) → AllZip (IsRecord o strings) v encodings
+    → 12 * length v + 8 * length (items_of v) ≤ length (concat encodings)
+records_long o strings [] encodings h = omega arith
 records_long o strings (r ∷ v) [] h = absurd h
-records_long o strings (r ∷ v) (s ∷ spellings) h =
-    omega (arith, record_long o strings r s h.0, records_long o strings v spellings h.1, length-append s (concat spellings), length-append r.items (items_of v))
+records_long o strings (r ∷ v) (s ∷ encodings) h =
+    omega (arith, record_long o strings r s h.0, records_long o strings v encodings h.1, length-append s (concat encodings), length-append r.items (items_of v))
 
 record CutLong (b types strings : List ℕ) : Type 0 where
   pub whole : length types + length strings ≤ length b
@@ -91,11 +91,11 @@ starts b h v reads d =
       rest = record {
         strings = d.strings;
         words = [];
-        spellings = d.spellings;
+        encodings = d.encodings;
         tail = drop h.types_len (drop h.types_pos b);
         items = search rules;
         fit = λ i. search rules;
-        types = subst (λ (o : Order). AllZip (IsRecord o d.strings) v d.spellings) same.order d.spelled;
+        types = subst (λ (o : Order). AllZip (IsRecord o d.strings) v d.encodings) same.order d.encoded;
         here =
             sym (take-append-drop h.types_len (drop h.types_pos b))
             ∙ ap (λ (x : List ℕ). x ++ drop h.types_len (drop h.types_pos b)) (sym same.types ∙ d.whole);
@@ -104,7 +104,7 @@ starts b h v reads d =
         short = omega (arith, strings_long, reads.strings_there, long.short);
         ends = d.nul_ends;
       };
-      fits = omega (arith, records_long d.order d.strings v d.spellings d.spelled, ap length d.whole, long.whole);
+      fits = omega (arith, records_long d.order d.strings v d.encodings d.encoded, ap length d.whole, long.whole);
       short = long.short;
       strings_short = omega (arith, reads.strings_there, long.short);
     }

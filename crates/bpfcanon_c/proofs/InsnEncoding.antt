@@ -1,7 +1,7 @@
 -- A record that says an instruction has its fields.
 use Rattle.std.proofs.Common.{◌≡◌, ◌/◌, ◌%◌, ◌++◌, ◌∙◌, ◌-◌, ℕ, ℤ, List, [], length, take, replicate, refl, sym, ap, arith, rules}
 use Rattle.bpf_words.specs.declared.Order.{Order, TheVariants.Little}
-use Rattle.bpf_words.specs.Slots.{Fields, spelled}
+use Rattle.bpf_words.specs.Slots.{Fields, encoded}
 use Rattle.bpf_insn.specs.declared.insn.{Reg.Reg, Width.TheVariants.W32, Width.TheVariants.W64}
 use Rattle.bpf_insn.specs.declared.insn.Size.TheVariants as size
 use Rattle.bpf_insn.specs.declared.insn.SmallSize.TheVariants as small
@@ -19,7 +19,7 @@ use Rattle.bpf_insn.specs.declared.insn.Insn.TheVariants.{Alu, Movsx, Neg, Swap,
 use Rattle.bpf_insn.specs.Table.{fields_of, next_imm_of, register_number, source, alu_code, alu_offset, branch_code, wide_source}
 use Rattle.std.proofs.lemmas.List.{take_at, append-nil}
 use Rattle.bpf_insn.specs.{Table.IsInsn, Faults.BeginsWith}
-use Rattle.bpf_insn.specs.Spelling.{spelling, second_slot}
+use Rattle.bpf_insn.specs.Encoding.{encoding, second_slot}
 use Rattle.bpfcanon_c.specs.declared.insn_rows.InsnRow.{InsnRow}
 use Rattle.bpfcanon_c.specs.InsnRows.{form_row, alu_number}
 use Rattle.bpfcanon_c.specs.InsnEncoding.{SaysInsn, SameParts, SameNumbers}
@@ -154,13 +154,13 @@ same_raw o a b p n =
     ∙ ap (λ x. R b.form b.op b.bits b.from b.dst b.src b.by_reg b.off x a.next_imm) n.imm
     ∙ ap (λ x. R b.form b.op b.bits b.from b.dst b.src b.by_reg b.off b.imm x) n.next_imm
 
--- the encoding of a record that says an instruction is its spelling
-pub raw_is : (o : Order) (row : InsnRow) (i : Insn) → SaysInsn row i → raw_bytes o row ≡ spelling o i
-unfolding spelling
+-- the encoding of a record that says an instruction is its encoding
+pub raw_is : (o : Order) (row : InsnRow) (i : Insn) → SaysInsn row i → raw_bytes o row ≡ encoding o i
+unfolding encoding
 raw_is o row i says =
     same_raw o row (form_row i) says.parts says.numbers
-    ∙ ap (λ (f : Fields). spelled o f ++ second_slot o (raw_next (form_row i))) (raw_of_form i)
-    ∙ ap (λ n. spelled o (fields_of i) ++ second_slot o n) (next_of_form i)
+    ∙ ap (λ (f : Fields). encoded o f ++ second_slot o (raw_next (form_row i))) (raw_of_form i)
+    ∙ ap (λ n. encoded o (fields_of i) ++ second_slot o n) (next_of_form i)
 
 -- and so the bytes begin with it
 pub begins : (row : InsnRow) (bytes : List ℕ) (n : ℕ) (i : Insn) → bytes ≡ raw_bytes Little row ++ replicate (16 - n) 0 → n ≡ length (raw_bytes Little row) → IsInsn i → SaysInsn row i
@@ -169,6 +169,6 @@ begins row bytes n i e len is says = (
   is,
   (
     [],
-    ap (λ (x : List ℕ). take n x) e ∙ take_at (raw_bytes Little row) (replicate (16 - n) 0) n (sym len) ∙ raw_is Little row i says ∙ sym (append-nil (spelling Little i)),
+    ap (λ (x : List ℕ). take n x) e ∙ take_at (raw_bytes Little row) (replicate (16 - n) 0) n (sym len) ∙ raw_is Little row i says ∙ sym (append-nil (encoding Little i)),
   ),
 )

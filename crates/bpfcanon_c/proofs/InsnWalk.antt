@@ -10,7 +10,7 @@ use Rattle.std.proofs.lemmas.List.Elements.{All-get_or, All-push}
 use Rattle.std.proofs.lemmas.Slice.Zip.{AllZip-long}
 use Rattle.bpf_words.specs.declared.Order.{Order, TheVariants.Little}
 use Rattle.bpf_insn.specs.declared.insn.Insn.{Insn}
-use Rattle.bpf_insn.specs.{Table.IsInsn, Spelling.file_of, Spelling.spelling, Faults.BeginsWith}
+use Rattle.bpf_insn.specs.{Table.IsInsn, Encoding.file_of, Encoding.encoding, Faults.BeginsWith}
 use Rattle.bpf_insn.proofs.{FrontLemmas.length-at_most_file, FileLaws.at_most_two}
 use Rattle.bpf_text.proofs.InsnLemmas.ZipLemmas.{zip_push}
 use Rattle.bpf_canon.proofs.InsnLemmas.FrontLaws.{length-file_same}
@@ -33,7 +33,7 @@ pub record CutInsn (o : Order) (l : List Insn) (k : ℕ) : Type 0 where
   pub is_insn : All IsInsn l → IsInsn insn
   pub says : (rows : List InsnRow) (d : InsnRow) → AllZip SaysInsn rows l → SaysInsn (get_or rows k d) insn
   pub more : take (k + 1) l ≡ take k l ++ insn ∷ []
-  pub whole : file_of o l ≡ file_of o (take k l) ++ (spelling o insn ++ after)
+  pub whole : file_of o l ≡ file_of o (take k l) ++ (encoding o insn ++ after)
 
 cut_insn : (o : Order) (l : List Insn) (k : ℕ) → k < length l → CutInsn o l k
 cut_insn o [] k h = absurd (omega arith)
@@ -49,29 +49,29 @@ cut_insn o (d ∷ l) k h =
       more = take_more xs k d h;
       whole =
           ap (file_of o) (sym (take-append-drop k xs) ∙ ap (λ (x : List Insn). take k xs ++ x) (drop-cons xs k d h))
-          ∙ flat_map-append (spelling o) (take k xs) (i ∷ rest);
+          ∙ flat_map-append (encoding o) (take k xs) (i ∷ rest);
     }
 
 -- what the next instruction of a file adds to the records before it
 pub record NextInsn (o : Order) (bytes : List ℕ) (k at : ℕ) (out : List InsnRow) : Type 0 where
   pub insn : Insn
   pub begins : BeginsWith o insn (take (length bytes - at) (drop at bytes))
-  pub inside : at + length (spelling o insn) ≤ length bytes
-  pub more : DecodesTo o bytes (k + 1) (at + length (spelling o insn)) (set out k (row_at at insn))
+  pub inside : at + length (encoding o insn) ≤ length bytes
+  pub more : DecodesTo o bytes (k + 1) (at + length (encoding o insn)) (set out k (row_at at insn))
 
 pub next_insn : (o : Order) (bytes : List ℕ) (k at : ℕ) (out : List InsnRow) → DecodesTo o bytes k at out → k < length out → NextInsn o bytes k at out
 next_insn o bytes k at out d h =
     let c = cut_insn o d.insns k (omega (arith, d.counted)) in
     let before = file_of o (take k d.insns) in
-    let spelled = spelling o c.insn in
-    let whole : bytes ≡ before ++ (spelled ++ c.after) = d.file.1 ∙ c.whole in
-    let rest : drop at bytes ≡ spelled ++ c.after = ap (λ (x : List ℕ). drop at x) whole ∙ drop_at before (spelled ++ c.after) at (sym d.place) in
-    let long : length bytes ≡ length before + (length spelled + length c.after) =
-    omega (arith, ap length whole, length-append before (spelled ++ c.after), length-append spelled c.after)
+    let encoded = encoding o c.insn in
+    let whole : bytes ≡ before ++ (encoded ++ c.after) = d.file.1 ∙ c.whole in
+    let rest : drop at bytes ≡ encoded ++ c.after = ap (λ (x : List ℕ). drop at x) whole ∙ drop_at before (encoded ++ c.after) at (sym d.place) in
+    let long : length bytes ≡ length before + (length encoded + length c.after) =
+    omega (arith, ap length whole, length-append before (encoded ++ c.after), length-append encoded c.after)
     in
     let row = row_at at c.insn in
-    let longer : length (file_of o (take (k + 1) d.insns)) ≡ at + length spelled =
-    omega (arith, ap length (ap (file_of o) c.more ∙ flat_map-append (spelling o) (take k d.insns) (c.insn ∷ [])), length-append before (file_of o (c.insn ∷ [])), length-append spelled [], d.place)
+    let longer : length (file_of o (take (k + 1) d.insns)) ≡ at + length encoded =
+    omega (arith, ap length (ap (file_of o) c.more ∙ flat_map-append (encoding o) (take k d.insns) (c.insn ∷ [])), length-append before (file_of o (c.insn ∷ [])), length-append encoded [], d.place)
     in
     record {
       insn = c.insn;
@@ -127,19 +127,19 @@ decodes_all o bytes k at out d h =
 
 -- one record more
 pub say_more : (rows : List InsnRow) (k : ℕ) (d : InsnRow) (total : ℕ) (i : Insn) (len : ℕ) → k < length rows → SayInsns (take k rows) total → IsInsn i → SaysInsn (get_or rows k d) i
-    → len ≡ length (spelling Little i) → SayInsns (take (k + 1) rows) (total + len)
+    → len ≡ length (encoding Little i) → SayInsns (take (k + 1) rows) (total + len)
 say_more rows k d total i len h s is says e = record {
   insns = s.insns ++ i ∷ [];
   says =
       subst (λ (xs : List InsnRow). AllZip SaysInsn xs (s.insns ++ i ∷ [])) (sym (take_more rows k d h)) (zip_push SaysInsn (take k rows) s.insns (get_or rows k d) i s.says says);
   each = All-push IsInsn s.insns i s.each is;
   long =
-      omega (arith, s.long, e, ap length (flat_map-append (spelling Little) s.insns (i ∷ [])), length-append (file_of Little s.insns) (file_of Little (i ∷ [])), length-append (spelling Little i) []);
+      omega (arith, s.long, e, ap length (flat_map-append (encoding Little) s.insns (i ∷ [])), length-append (file_of Little s.insns) (file_of Little (i ∷ [])), length-append (encoding Little i) []);
 }
 
 file_at_most : (o : Order) (l : List Insn) → length (file_of o l) ≤ 16 * length l
 file_at_most o [] = omega arith
-file_at_most o (i ∷ l) = omega (arith, length-append (spelling o i) (file_of o l), at_most_two o i, file_at_most o l)
+file_at_most o (i ∷ l) = omega (arith, length-append (encoding o i) (file_of o l), at_most_two o i, file_at_most o l)
 
 pub says_most : (rows : List InsnRow) (total : ℕ) → SayInsns rows total → total ≤ 16 * length rows
 says_most rows total s = omega (arith, s.long, file_at_most Little s.insns, AllZip-long SaysInsn rows s.insns s.says)
@@ -173,11 +173,11 @@ encodes_none to rows out s = record {
 }
 
 -- what the next record adds to the bytes before it
-pub record NextBytes (to : Order) (rows : List InsnRow) (k at : ℕ) (out spelled : List ℕ) (len : ℕ) : Type 0 where
+pub record NextBytes (to : Order) (rows : List InsnRow) (k at : ℕ) (out encoded : List ℕ) (len : ℕ) : Type 0 where
   pub inside : at + len ≤ length out
   pub begun : at ≤ length out
-  pub long : length spelled ≡ len
-  pub more : (new : List ℕ) → take (at + len) new ≡ take at out ++ spelled → drop (at + len) new ≡ drop (at + len) out → EncodesTo to rows (k + 1) (at + len) new
+  pub long : length encoded ≡ len
+  pub more : (new : List ℕ) → take (at + len) new ≡ take at out ++ encoded → drop (at + len) new ≡ drop (at + len) out → EncodesTo to rows (k + 1) (at + len) new
 
 pub next_bytes : (to : Order) (rows : List InsnRow) (k at : ℕ) (out : List ℕ) (d : InsnRow) (bytes : List ℕ) (len : ℕ) → EncodesTo to rows k at out → k < length rows
     → bytes ≡ raw_bytes to (get_or rows k d) ++ replicate (16 - len) 0 → len ≡ length (raw_bytes to (get_or rows k d)) → NextBytes to rows k at out (take len bytes) len
@@ -186,14 +186,14 @@ next_bytes to rows k at out d bytes len e h made counted =
     let few : k < length e.insns = omega (arith, AllZip-long SaysInsn rows e.insns e.says) in
     let c = cut_insn to e.insns k few in
     let before = file_of to (take k e.insns) in
-    let spelled = spelling to c.insn in
-    let raw : raw_bytes to row ≡ spelled = raw_is to row c.insn (c.says rows d e.says) in
-    let is : take len bytes ≡ spelled = ap (λ (x : List ℕ). take len x) made ∙ take_at (raw_bytes to row) (replicate (16 - len) 0) len (sym counted) ∙ raw in
-    let longer : file_of to (take (k + 1) e.insns) ≡ before ++ spelled =
-    ap (file_of to) c.more ∙ flat_map-append (spelling to) (take k e.insns) (c.insn ∷ []) ∙ ap (λ (x : List ℕ). before ++ x) (append-nil spelled)
+    let encoded = encoding to c.insn in
+    let raw : raw_bytes to row ≡ encoded = raw_is to row c.insn (c.says rows d e.says) in
+    let is : take len bytes ≡ encoded = ap (λ (x : List ℕ). take len x) made ∙ take_at (raw_bytes to row) (replicate (16 - len) 0) len (sym counted) ∙ raw in
+    let longer : file_of to (take (k + 1) e.insns) ≡ before ++ encoded =
+    ap (file_of to) c.more ∙ flat_map-append (encoding to) (take k e.insns) (c.insn ∷ []) ∙ ap (λ (x : List ℕ). before ++ x) (append-nil encoded)
     in
     let inside : at + len ≤ length out =
-    omega (arith, e.long, ap length c.whole, length-append before (spelled ++ c.after), length-append spelled c.after, e.place, ap length raw, counted)
+    omega (arith, e.long, ap length c.whole, length-append before (encoded ++ c.after), length-append encoded c.after, e.place, ap length raw, counted)
     in
     let long : length (take len bytes) ≡ len = omega (arith, ap length is, ap length raw, counted) in
     record {
@@ -206,7 +206,7 @@ next_bytes to rows k at out d bytes len e h made counted =
         each = e.each;
         long =
             omega (arith, e.long, ap length kept, length-drop (at + len) new, length-drop (at + len) out, ap length written, length-take (at + len) new, length-append (take at out) (take len bytes), length-take-le at out (omega arith));
-        place = omega (arith, e.place, ap length raw, counted, ap length longer, length-append before spelled);
+        place = omega (arith, e.place, ap length raw, counted, ap length longer, length-append before encoded);
         bytes = written ∙ ap (λ (x : List ℕ). x ++ take len bytes) e.bytes ∙ ap (λ (x : List ℕ). before ++ x) is ∙ sym longer;
       };
     }

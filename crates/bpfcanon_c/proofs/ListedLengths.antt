@@ -2,7 +2,7 @@
 use Rattle.std.proofs.Common.{◌≡◌, ◌≤◌, ◌<◌, ◌+◌, ◌*◌, ℕ, suc, ℤ, pos, Bool, true, false, cond, List, [], ◌∷◌, ◌++◌, inl, inr, None, length, length-append, refl, sym, ap, subst, arith, codes}
 use Rattle.std.specs.{List.AllZip, List.flat_map, List.slice_split, List.onto_first, List.position_or_len, Char.digit_value}
 use Rattle.std.proofs.lemmas.{Bool.Decides.nat_tests, List.length-take, List.Concat.flat_map-append}
-use Rattle.bpf_words.specs.{declared.Order.Order, Slots.spelled}
+use Rattle.bpf_words.specs.{declared.Order.Order, Slots.encoded}
 use Rattle.bpf_insn.specs.declared.insn.Reg as reg
 use Rattle.bpf_insn.specs.declared.insn.Size.{Size}
 use Rattle.bpf_insn.specs.declared.insn.Size.TheVariants as size
@@ -20,7 +20,7 @@ use Rattle.bpf_insn.specs.declared.insn.AtomicOp.TheVariants as atomic
 use Rattle.bpf_insn.specs.{declared.insn.WideOf.WideOf, declared.insn.Insn.Insn, Table.fields_of, Table.next_imm_of}
 use Rattle.bpf_insn.specs.declared.insn.WideOf.TheVariants.{Number, MapFd, MapValueFd, VarAddr, CodeAddr, MapIdx, MapValueIdx}
 use Rattle.bpf_insn.specs.declared.insn.Insn.TheVariants.{Alu, Movsx, Neg, Swap, Jump, JumpLong, Branch, CallHelper, CallLocal, CallBtf, Exit, Load, LoadSigned, StoreImm, StoreReg, Atomic, Wide, PacketAbs, PacketInd}
-use Rattle.bpf_insn.specs.Spelling.{file_of, second_slot, spelling}
+use Rattle.bpf_insn.specs.Encoding.{file_of, second_slot, encoding}
 use Rattle.bpf_words.proofs.SlotLemmas.{slot_length}
 use Rattle.bpf_insn.proofs.FileLaws.{at_most_two}
 use Rattle.bpf_text.specs.insn.Operands.{LineOperand, register, number, signed, memory, register_text, SpellsMagnitude, SpellsOperand, SpellsOperands, is_comma}
@@ -121,10 +121,10 @@ magnitude_word t n (inr h) = subst BeginsWithWordByte (sym h.1) refl
 
 -- ---- lines
 
-plain_length : (o : Order) (i : Insn) → next_imm_of i ≡ None → length (spelling o i) ≡ 8
-unfolding spelling
+plain_length : (o : Order) (i : Insn) → next_imm_of i ≡ None → length (encoding o i) ≡ 8
+unfolding encoding
 plain_length o i none =
-    omega (arith, ap (λ k. length (second_slot o k)) none, length-append (spelled o (fields_of i)) (second_slot o (next_imm_of i)), slot_length o (fields_of i))
+    omega (arith, ap (λ k. length (second_slot o k)) none, length-append (encoded o (fields_of i)) (second_slot o (next_imm_of i)), slot_length o (fields_of i))
 
 wide_word : (what : WideOf) → 4 ≤ length (wide_mnemonic what)
 wide_word what = elim what as (λ x. 4 ≤ length (wide_mnemonic x)) [ Number n ↦ omega arith | MapFd k ↦ omega arith | MapValueFd k m ↦ omega arith | VarAddr k m ↦ omega arith | CodeAddr k ↦ omega arith | MapIdx k ↦ omega arith | MapValueIdx k m ↦ omega arith ]
@@ -177,7 +177,7 @@ wide_code code (t ∷ ts) d what tokens h =
     omega (arith, long, wide_tokens (t ∷ ts) d what h, two_words code (wide_mnemonic what) t ts (omega (arith, long)) (first_register t ts d (wide_operands what) h) tokens)
 
 -- code that lists an instruction has at least half of its bytes
-code_length : (o : Order) (i : Insn) (code : List ℕ) (ts : List (List ℕ)) → AreTokens code (mnemonic_text i ∷ ts) → SpellsOperands ts (operands_of i) → length (spelling o i) ≤ 2 * length code
+code_length : (o : Order) (i : Insn) (code : List ℕ) (ts : List (List ℕ)) → AreTokens code (mnemonic_text i ∷ ts) → SpellsOperands ts (operands_of i) → length (encoding o i) ≤ 2 * length code
 code_length o (Alu width op d arg) code ts tokens h =
     let i = Alu width op d arg in
     omega (arith, plain_length o i refl, word_and_tokens code (mnemonic_text i) ts tokens, length-append (alu_mnemonic op) (width_suffix width), alu_length op, three_tokens ts (register d) (source_operand arg) [] h)
@@ -221,10 +221,10 @@ code_length o (PacketInd z s k) code ts tokens h =
     let i = PacketInd z s k in
     omega (arith, plain_length o i refl, word_and_tokens code (mnemonic_text i) ts tokens, length-append (codes "ldind") (small_size_suffix z))
 
-insn_length : (o : Order) (line : List ℕ) (i : Insn) → ListsInsn line i → length (spelling o i) ≤ 2 * length line
+insn_length : (o : Order) (line : List ℕ) (i : Insn) → ListsInsn line i → length (encoding o i) ≤ 2 * length line
 insn_length o line i h = by_tokens h.1.0 h.1.1 h.1.2
   where
-    by_tokens : (ts : List (List ℕ)) → AreTokens (code_of line) ts → IsTokenForm ts i → length (spelling o i) ≤ 2 * length line
+    by_tokens : (ts : List (List ℕ)) → AreTokens (code_of line) ts → IsTokenForm ts i → length (encoding o i) ≤ 2 * length line
     by_tokens [] tokens form = absurd form
     by_tokens (t ∷ ts) tokens form =
         let P : List ℕ → Type 0 = λ x. AreTokens (code_of line) (x ∷ ts) in
@@ -232,7 +232,7 @@ insn_length o line i h = by_tokens h.1.0 h.1.1 h.1.2
 
 line_length : (o : Order) (line : List ℕ) (found : List Insn) → ListsLine line found → length (file_of o found) ≤ 2 * length line
 line_length o line [] h = omega arith
-line_length o line (i ∷ []) h = omega (arith, length-append (spelling o i) [], insn_length o line i h)
+line_length o line (i ∷ []) h = omega (arith, length-append (encoding o i) [], insn_length o line i h)
 line_length o line (i ∷ j ∷ more) h = absurd h
 
 -- ---- listings
@@ -259,7 +259,7 @@ lines_length o [] (found ∷ listed) h = absurd h
 lines_length o (line ∷ lines) [] h = absurd h
 lines_length o (line ∷ lines) (found ∷ listed) h =
     let more = flat_map (λ (x : List Insn). x) listed in
-    omega (arith, ap length (flat_map-append (spelling o) found more), length-append (file_of o found) (file_of o more), line_length o line found h.0, lines_length o lines listed h.1)
+    omega (arith, ap length (flat_map-append (encoding o) found more), length-append (file_of o found) (file_of o more), line_length o line found h.0, lines_length o lines listed h.1)
 
 pub listed_fits : (o : Order) (text : List ℕ) (l : List Insn) → Lists text l → length (file_of o l) ≤ 2 * length text
 listed_fits o text l h =

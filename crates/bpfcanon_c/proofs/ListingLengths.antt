@@ -2,7 +2,7 @@
 use Rattle.std.proofs.Common.{◌≡◌, ◌≤◌, ◌+◌, ◌*◌, ℕ, suc, ℤ, pos, negsuc, List, [], ◌∷◌, ◌++◌, All, length, length-append, ap, arith, codes, decimal, FitsSigned}
 use Rattle.std.specs.{Fmt.signed_decimal, Int.w16, Int.w32}
 use Rattle.std.proofs.lemmas.{Int.ints, Fmt.length-decimal-le, List.Elements.All-head, List.Elements.All-tail}
-use Rattle.bpf_words.specs.{declared.Order.Order, Slots.spelled}
+use Rattle.bpf_words.specs.{declared.Order.Order, Slots.encoded}
 use Rattle.bpf_insn.specs.declared.insn.{Width.Width, Width.TheVariants.W32, Width.TheVariants.W64, Size.Size}
 use Rattle.bpf_insn.specs.declared.insn.Size.TheVariants as size
 use Rattle.bpf_insn.specs.declared.insn.SmallSize.{SmallSize}
@@ -24,7 +24,7 @@ use Rattle.bpf_insn.specs.declared.insn.{WideOf.WideOf, Insn.Insn}
 use Rattle.bpf_insn.specs.declared.insn.WideOf.TheVariants.{Number, MapFd, MapValueFd, VarAddr, CodeAddr, MapIdx, MapValueIdx}
 use Rattle.bpf_insn.specs.declared.insn.Insn.TheVariants.{Alu, Movsx, Neg, Swap, Jump, JumpLong, Branch, CallHelper, CallLocal, CallBtf, Exit, Load, LoadSigned, StoreImm, StoreReg, Atomic, Wide, PacketAbs, PacketInd}
 use Rattle.bpf_insn.specs.Table.{IsInsn, IsOperand, IsWideOf, fields_of, next_imm_of, wide_next_imm}
-use Rattle.bpf_insn.specs.Spelling.{InsnFile, file_of, second_slot, spelling}
+use Rattle.bpf_insn.specs.Encoding.{InsnFile, file_of, second_slot, encoding}
 use Rattle.bpf_words.proofs.SlotLemmas.{slot_length}
 use Rattle.bpf_insn.proofs.{FileLaws.at_least_a_slot, WideLemmas.second_length}
 use Rattle.bpf_text.specs.insn.Operands.{LineOperand, register, number, signed, memory, register_text, signed_text, operand_text}
@@ -115,14 +115,14 @@ wide_line d (CodeAddr k) h = omega (arith, two (codes "lddw_code") (register d) 
 wide_line d (MapIdx k) h = omega (arith, two (codes "lddw_idx") (register d) (number k), register_length d, imm_length k h)
 wide_line d (MapValueIdx k m) h = omega (arith, three (codes "lddw_idx_value") (register d) (number k) (number m), register_length d, imm_length k h.0, imm_length m h.1)
 
-wide_length : (o : Order) (d : reg.Reg) (what : WideOf) → length (spelling o (Wide d what)) ≡ 16
-unfolding spelling
+wide_length : (o : Order) (d : reg.Reg) (what : WideOf) → length (encoding o (Wide d what)) ≡ 16
+unfolding encoding
 wide_length o d what =
     let i = Wide d what in
-    omega (arith, second_length o (wide_next_imm what), length-append (spelled o (fields_of i)) (second_slot o (next_imm_of i)), slot_length o (fields_of i))
+    omega (arith, second_length o (wide_next_imm what), length-append (encoded o (fields_of i)) (second_slot o (next_imm_of i)), slot_length o (fields_of i))
 
 -- the line of an instruction with its newline: jsgt32 r10, -2147483648, -32768 has 32 bytes
-line_length : (o : Order) (i : Insn) → IsInsn i → length (line_of i) + 1 ≤ 4 * length (spelling o i)
+line_length : (o : Order) (i : Insn) → IsInsn i → length (line_of i) + 1 ≤ 4 * length (encoding o i)
 line_length o (Alu width op d arg) h =
     omega (arith, at_least_a_slot o (Alu width op d arg), two (mnemonic_text (Alu width op d arg)) (register d) (source_operand arg), length-append (alu_mnemonic op) (width_suffix width), alu_length op, width_length width, register_length d, source_length arg h.1)
 line_length o (Movsx form d s) h =
@@ -164,7 +164,7 @@ listing_length o (i ∷ l) h =
       arith,
       length-append (line_of i ++ codes "\n") (listing_of l),
       length-append (line_of i) (codes "\n"),
-      length-append (spelling o i) (file_of o l),
+      length-append (encoding o i) (file_of o l),
       line_length o i (All-head IsInsn i l h),
       listing_length o l (All-tail IsInsn i l h),
     )

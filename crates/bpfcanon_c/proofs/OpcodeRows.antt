@@ -3,8 +3,8 @@ use Rattle.std.proofs.Common.{◌≡◌, ◌∙◌, ◌<◌, ◌≤◌, ◌/◌,
 use Rattle.std.specs.Option.{option_and_then}
 use Rattle.std.proofs.lemmas.List.{take_at, drop_at, append-nil}
 use Rattle.std.proofs.lemmas.Int.{ints}
-use Rattle.bpf_words.specs.{declared.Order.Order, declared.Order.TheVariants.Little, declared.Order.TheVariants.Big, Slots.Fields, Slots.AreFields, Slots.fields, Slots.spelled}
-use Rattle.bpf_words.proofs.OneSpelling.{spelled-injective}
+use Rattle.bpf_words.specs.{declared.Order.Order, declared.Order.TheVariants.Little, declared.Order.TheVariants.Big, Slots.Fields, Slots.AreFields, Slots.fields, Slots.encoded}
+use Rattle.bpf_words.proofs.OneEncoding.{encoded-injective}
 use Rattle.bpf_insn.specs.declared.{insn.Insn.Insn, insn.Reg.Reg, insn.Width.Width, insn.WideOf.WideOf, group.Group.Group, group.Group.TheVariants.Base32, group.Group.TheVariants.Base64, group.Group.TheVariants.Packet}
 use Rattle.bpf_insn.specs.declared.insn.AluOp.TheVariants as alu
 use Rattle.bpf_insn.specs.declared.insn.MovsxForm.TheVariants as movsx
@@ -14,7 +14,7 @@ use Rattle.bpf_insn.specs.declared.form.{Source.Source, AluCode.AluCode}
 use Rattle.bpf_insn.specs.declared.form.AluCode.TheVariants as code
 use Rattle.bpf_insn.specs.declared.form.Form.{Form}
 use Rattle.bpf_insn.specs.declared.form.Form.TheVariants as form
-use Rattle.bpf_insn.specs.{Table.fields_of, Table.next_imm_of, Table.branch_code, Table.wide_next_imm, Groups.base, Groups.divmul, Groups.size_group, Spelling.spelling, Spelling.second_slot, Faults.BeginsWith}
+use Rattle.bpf_insn.specs.{Table.fields_of, Table.next_imm_of, Table.branch_code, Table.wide_next_imm, Groups.base, Groups.divmul, Groups.size_group, Encoding.encoding, Encoding.second_slot, Faults.BeginsWith}
 use Rattle.bpf_insn.specs.Forms.{alu_code_number, source_number, form_at, alu32_form_at, alu64_form_at, jump32_form_at, jump64_form_at, load_form_at, alu_code_at, branch_op_at, size_at, small_size_at}
 use Rattle.bpf_words.proofs.SlotLemmas.{slot_length}
 use Rattle.bpf_insn.proofs.{FormLemmas.insn_form, FormLemmas.opcode_of_form, OpcodeLemmas.form_at-form_opcode, TableLemmas.same_table, FieldLemmas.fields_in_range, FieldLemmas.wide_next_fits, WideLemmas.wide_of_opcode, WideLemmas.second_length}
@@ -93,21 +93,21 @@ makes_rows n (Some r) h e = λ i opcode allowed.
 -- ---- the record of the instruction that bytes begin with
 
 -- bytes that begin with an instruction begin with its first slot
-slot_begun : (o : Order) (s front : List ℕ) (f : Fields) → front ≡ take 8 s → front ≡ spelled o f → AreFields f → (i : Insn) → BeginsWith o i s → fields_of i ≡ f
-unfolding spelling
+slot_begun : (o : Order) (s front : List ℕ) (f : Fields) → front ≡ take 8 s → front ≡ encoded o f → AreFields f → (i : Insn) → BeginsWith o i s → fields_of i ≡ f
+unfolding encoding
 slot_begun o s front f cut is range i b =
-    let first = spelled o (fields_of i) in
+    let first = encoded o (fields_of i) in
     let second = second_slot o (next_imm_of i) in
     let whole : s ≡ first ++ (second ++ b.1.0) = b.1.1 ∙ append_assoc first second b.1.0 in
     let taken : take 8 s ≡ first = ap (λ (x : List ℕ). take 8 x) whole ∙ take_at first (second ++ b.1.0) 8 (slot_length o (fields_of i)) in
-    spelled-injective o (fields_of i) f (fields_in_range i b.0) range (sym taken ∙ sym cut ∙ is)
+    encoded-injective o (fields_of i) f (fields_in_range i b.0) range (sym taken ∙ sym cut ∙ is)
 
-one_slot : (o : Order) (i : Insn) → next_imm_of i ≡ None → length (spelling o i) ≡ 8
-unfolding spelling
+one_slot : (o : Order) (i : Insn) → next_imm_of i ≡ None → length (encoding o i) ≡ 8
+unfolding encoding
 one_slot o i none =
-    ap (λ (m : Option ℤ). length (spelled o (fields_of i) ++ second_slot o m)) none ∙ ap length (append-nil (spelled o (fields_of i))) ∙ slot_length o (fields_of i)
+    ap (λ (m : Option ℤ). length (encoded o (fields_of i) ++ second_slot o m)) none ∙ ap length (append-nil (encoded o (fields_of i))) ∙ slot_length o (fields_of i)
 
-pub puts_row : (o : Order) (s front : List ℕ) (f : Fields) (r : OpcodeRow) (at : ℕ) → front ≡ take 8 s → front ≡ spelled o f → AreFields f → MakesRows f.opcode r → Allows r f
+pub puts_row : (o : Order) (s front : List ℕ) (f : Fields) (r : OpcodeRow) (at : ℕ) → front ≡ take 8 s → front ≡ encoded o f → AreFields f → MakesRows f.opcode r → Allows r f
     → HasPut o s at (slot_row at f r) 8
 puts_row o s front f r at cut is range makes allowed = λ i b.
     let same : fields_of i ≡ f = slot_begun o s front f cut is range i b in
@@ -123,48 +123,48 @@ second_fields k = fields 0 0 0 (pos 0) k
 second_in_range : (k : ℤ) → FitsSigned w32 k → AreFields (second_fields k)
 second_in_range k h = record { opcode = omega arith; dst = omega arith; src = omega arith; off = omega (arith, ints); imm = h }
 
-second_spelled : (o : Order) (k : ℤ) → spelled o (second_fields k) ≡ second_slot o (Some k)
-second_spelled Little k = refl
-second_spelled Big k = refl
+second_encoded : (o : Order) (k : ℤ) → encoded o (second_fields k) ≡ second_slot o (Some k)
+second_encoded Little k = refl
+second_encoded Big k = refl
 
-wide_length : (o : Order) (d : Reg) (what : WideOf) → length (spelling o (Wide d what)) ≡ 16
-unfolding spelling
+wide_length : (o : Order) (d : Reg) (what : WideOf) → length (encoding o (Wide d what)) ≡ 16
+unfolding encoding
 wide_length o d what =
     let i = Wide d what in
-    omega (arith, length-append (spelled o (fields_of i)) (second_slot o (Some (wide_next_imm what))), slot_length o (fields_of i), second_length o (wide_next_imm what))
+    omega (arith, length-append (encoded o (fields_of i)) (second_slot o (Some (wide_next_imm what))), slot_length o (fields_of i), second_length o (wide_next_imm what))
 
 -- the record and the length of a wide load, from its slots
-of_wide : (o : Order) (s rest second : List ℕ) (f g : Fields) (at : ℕ) → rest ≡ drop 8 s → second ≡ take 8 rest → second ≡ spelled o g → AreFields g
+of_wide : (o : Order) (s rest second : List ℕ) (f g : Fields) (at : ℕ) → rest ≡ drop 8 s → second ≡ take 8 rest → second ≡ encoded o g → AreFields g
     → (d : Reg) (what : WideOf) → BeginsWith o (Wide d what) s → fields_of (Wide d what) ≡ f
-    → (wide_row at f g.imm ≡ row_at at (Wide d what)) × (16 ≡ length (spelling o (Wide d what)))
-unfolding spelling
+    → (wide_row at f g.imm ≡ row_at at (Wide d what)) × (16 ≡ length (encoding o (Wide d what)))
+unfolding encoding
 of_wide o s rest second f g at cut taken is range d what b same =
     let k = wide_next_imm what in
-    let first = spelled o (fields_of (Wide d what)) in
+    let first = encoded o (fields_of (Wide d what)) in
     let tail = second_slot o (Some k) in
     let whole : s ≡ first ++ (tail ++ b.1.0) = b.1.1 ∙ append_assoc first tail b.1.0 in
     let after : rest ≡ tail ++ b.1.0 = cut ∙ ap (λ (x : List ℕ). drop 8 x) whole ∙ drop_at first (tail ++ b.1.0) 8 (slot_length o (fields_of (Wide d what))) in
     let bytes : second ≡ tail = taken ∙ ap (λ (x : List ℕ). take 8 x) after ∙ take_at tail b.1.0 8 (second_length o k) in
     let next : g ≡ second_fields k =
-    spelled-injective o g (second_fields k) range (second_in_range k (wide_next_fits what b.0.1)) (sym is ∙ bytes ∙ sym (second_spelled o k))
+    encoded-injective o g (second_fields k) range (second_in_range k (wide_next_fits what b.0.1)) (sym is ∙ bytes ∙ sym (second_encoded o k))
     in (
       ap (λ (x : Fields). wide_row at f x.imm) next ∙ ap (λ (x : Fields). wide_row at x k) (sym same),
       sym (wide_length o d what),
     )
 
-pub puts_wide : (o : Order) (s first rest second : List ℕ) (f g : Fields) (at : ℕ) → first ≡ take 8 s → first ≡ spelled o f → AreFields f → f.opcode ≡ 0x18
-    → rest ≡ drop 8 s → second ≡ take 8 rest → second ≡ spelled o g → AreFields g → HasPut o s at (wide_row at f g.imm) 16
+pub puts_wide : (o : Order) (s first rest second : List ℕ) (f g : Fields) (at : ℕ) → first ≡ take 8 s → first ≡ encoded o f → AreFields f → f.opcode ≡ 0x18
+    → rest ≡ drop 8 s → second ≡ take 8 rest → second ≡ encoded o g → AreFields g → HasPut o s at (wide_row at f g.imm) 16
 puts_wide o s first rest second f g at begun is range wide cut taken also ranges = λ i b.
     let same : fields_of i ≡ f = slot_begun o s first f begun is range i b in
     let w = wide_of_opcode i (ap (λ (x : Fields). x.opcode) same ∙ wide) in
-    subst (λ (x : Insn). (wide_row at f g.imm ≡ row_at at x) × (16 ≡ length (spelling o x))) (sym w.is)
+    subst (λ (x : Insn). (wide_row at f g.imm ≡ row_at at x) × (16 ≡ length (encoding o x))) (sym w.is)
     (of_wide o s rest second f g at cut taken also ranges w.dst w.what (subst (λ (x : Insn). BeginsWith o x s) w.is b)
     (subst (λ (x : Insn). fields_of x ≡ f) w.is same))
 
 -- a wide load has a second slot
-pub has_second : (o : Order) (s first rest : List ℕ) (f : Fields) → first ≡ take 8 s → first ≡ spelled o f → AreFields f → f.opcode ≡ 0x18
+pub has_second : (o : Order) (s first rest : List ℕ) (f : Fields) → first ≡ take 8 s → first ≡ encoded o f → AreFields f → f.opcode ≡ 0x18
     → rest ≡ drop 8 s → (i : Insn) → BeginsWith o i s → 8 ≤ length rest
 has_second o s first rest f begun is range wide cut i b =
     let same : fields_of i ≡ f = slot_begun o s first f begun is range i b in
     let w = wide_of_opcode i (ap (λ (x : Fields). x.opcode) same ∙ wide) in
-    omega (arith, ap length cut, length-drop 8 s, ap length b.1.1, length-append (spelling o i) b.1.0, ap (λ (x : Insn). length (spelling o x)) w.is, wide_length o w.dst w.what)
+    omega (arith, ap length cut, length-drop 8 s, ap length b.1.1, length-append (encoding o i) b.1.0, ap (λ (x : Insn). length (encoding o x)) w.is, wide_length o w.dst w.what)

@@ -1,7 +1,7 @@
 -- What was written into a buffer is the output of a call.
 use Rattle.std.proofs.Common.{◌≡◌, ℕ, List, length, ap, arith}
 use Rattle.bpf_words.specs.declared.Order.{Order}
-use Rattle.bpf_insn.specs.{declared.insn.Insn.Insn, Spelling.InsnFile, Spelling.file_of}
+use Rattle.bpf_insn.specs.{declared.insn.Insn.Insn, Encoding.InsnFile, Encoding.file_of}
 use Rattle.bpf_canon.proofs.InsnLemmas.FrontLaws.{length-file_same}
 use Rattle.bpfcanon_c.specs.declared.answer.{FaultCode.FaultCode, Ending.Ending}
 use Rattle.bpfcanon_c.specs.declared.answer.Ending.TheVariants.{Written, Types, Groups, Accepted, Same, Different, First, Second, Memory, Room}

@@ -1,4 +1,3 @@
--- Only private contracts cite this file.
 -- What is left of a type section while its records are decoded.
 use Rattle.std.specs.Prelude.{◌≡◌, ◌==◌, ◌<◌, ◌+◌, ◌*◌, ◌/◌, ◌%◌, ◌^◌, ◌++◌, ℕ, List, if◌then◌else◌, Some, length, take, drop, slice_index, slice_get}
 use Rattle.std.specs.List.{AllZip, concat}
@@ -6,7 +5,7 @@ use Rattle.bpf_words.specs.{declared.Order.Order}
 use Rattle.btf_raw.specs.{Frames.bytes_of, Header.HasNulEnds, Names.NameAt}
 use Rattle.btf_raw.specs.Header as header
 use Rattle.btf_types.specs.Values.{TypeHead, KStruct, KUnion, KEnum, KFuncProto, KDatasec, KEnum64, TypeItem, TypeRecord}
-use Rattle.btf_types.specs.{Names.item_name, Spelling.IsRecord, Spelling.ItemSpells, Spelling.head_tail}
+use Rattle.btf_types.specs.{Names.item_name, Encoding.IsRecord, Encoding.ItemEncodes, Encoding.head_tail}
 use Rattle.bpfcanon_c.specs.declared.btf_rows.ItemRow.{ItemRow}
 use Rattle.bpfcanon_c.specs.BtfRows.{bare_item}
 
@@ -14,12 +13,12 @@ use Rattle.bpfcanon_c.specs.BtfRows.{bare_item}
 pub record Rest (o : Order) (bytes : List ℕ) (at strings_at flag : ℕ) (is : List TypeItem) (v : List TypeRecord) : Type 0 where
   pub strings : List ℕ
   pub words : List (List ℕ)
-  pub spellings : List (List ℕ)
+  pub encodings : List (List ℕ)
   pub tail : List ℕ
-  pub items : AllZip (ItemSpells strings flag) is words
+  pub items : AllZip (ItemEncodes strings flag) is words
   pub fit : (i : ℕ) → slice_index (concat words) i < 2 ^ 32
-  pub types : AllZip (IsRecord o strings) v spellings
-  pub here : drop at bytes ≡ bytes_of o (concat words) ++ (concat spellings ++ tail)
+  pub types : AllZip (IsRecord o strings) v encodings
+  pub here : drop at bytes ≡ bytes_of o (concat words) ++ (concat encodings ++ tail)
   pub strings_are : strings_at ≡ header.strings_at o bytes
   pub named : (offset : ℕ) (name : List ℕ) → NameAt strings offset name → NameAt bytes (strings_at + offset) name
   pub short : strings_at + length strings < 2 ^ 32

@@ -4,7 +4,7 @@ use Rattle.std.specs.List.{flat_map}
 use Rattle.bpf_words.specs.{declared.Order.Order, Words.word32_at}
 use Rattle.btf_raw.specs.{Header.types_at, Header.strings_at, Kinds.fixed_words, Kinds.item_words, Names.NameAt}
 use Rattle.btf_types.specs.Values.{TypeHead, KInt, KPtr, KArray, KStruct, KUnion, KEnum, KFwd, KTypedef, KVolatile, KConst, KRestrict, KFunc, KFuncProto, KVar, KDatasec, KFloat, KDeclTag, KTypeTag, KEnum64, TypeItem, Member, EnumValue, Value64, Param, Entry, TypeRecord}
-use Rattle.btf_types.specs.{Names.head_name, Names.item_name, Spelling.kind_number, Spelling.encoding_number, Spelling.linkage_number, Good.record_size}
+use Rattle.btf_types.specs.{Names.head_name, Names.item_name, Encoding.kind_number, Encoding.encoding_number, Encoding.linkage_number, Valid.record_size}
 use Rattle.bpfcanon_c.specs.declared.btf_rows.{TypeRow.TypeRow, ItemRow.ItemRow}
 
 -- ---- the record of a type

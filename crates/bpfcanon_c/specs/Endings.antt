@@ -1,7 +1,7 @@
 -- What the calls on BTF and on instruction files return to C.
 use Rattle.std.specs.Prelude.{◌≡◌, ◌⊎◌, ◌≤◌, ⊤, ℕ, true, false, List, length}
 use Rattle.bpf_words.specs.declared.Order.{Order}
-use Rattle.bpf_insn.specs.{declared.insn.Insn.Insn, Spelling.InsnFile, Spelling.file_of}
+use Rattle.bpf_insn.specs.{declared.insn.Insn.Insn, Encoding.InsnFile, Encoding.file_of}
 use Rattle.bpf_canon.specs.{insn.Canonical.Compares, btf.CanonicalBtf.canonical, btf.SameBtf.ComparesBtf}
 use Rattle.btf_types.specs.{Values.TypeRecord, Denotes.Denotes}
 use Rattle.bpfcanon_c.specs.declared.answer.{Answer.Answer, Ending.Ending}

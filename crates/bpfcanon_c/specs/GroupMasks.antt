@@ -3,7 +3,7 @@ use Rattle.std.specs.Prelude.{◌≡◌, ◌↔◌, ℕ, ◌+◌, Bool, List, Is
 use Rattle.bpf_words.specs.declared.Order.{Order}
 use Rattle.bpf_insn.specs.declared.{insn.Insn.Insn, group.Group.Group, group.GroupSet.GroupSet}
 use Rattle.bpf_insn.specs.declared.group.Group.TheVariants.{Base32, Base64, Atomic32, Atomic64, Divmul32, Divmul64, Packet}
-use Rattle.bpf_insn.specs.{Groups.InGroups, Groups.holds, Spelling.InsnFile}
+use Rattle.bpf_insn.specs.{Groups.InGroups, Groups.holds, Encoding.InsnFile}
 use Rattle.bpfcanon_c.specs.declared.answer.{Answer.Answer, Ending.Ending, Ending.TheVariants.Groups, Ending.TheVariants.First}
 use Rattle.bpfcanon_c.specs.declared.answer.Ending.TheVariants as ending
 use Rattle.bpfcanon_c.specs.{Answers.order_number, Outputs.IsNoOrder, Outputs.IsAnswerOf, Outputs.IsInsnCode}

@@ -1,7 +1,7 @@
 -- What the call that decodes instructions returns to C.
 use Rattle.std.specs.Prelude.{◌≡◌, ◌<◌, ◌≤◌, ◌*◌, ◌++◌, ℕ, List, length, drop}
 use Rattle.bpf_words.specs.declared.Order.{Order}
-use Rattle.bpf_insn.specs.{declared.insn.Insn.Insn, Spelling.InsnFile}
+use Rattle.bpf_insn.specs.{declared.insn.Insn.Insn, Encoding.InsnFile}
 use Rattle.bpfcanon_c.specs.declared.answer.{Answer.Answer, Ending.Ending, FaultCode.FaultCode}
 use Rattle.bpfcanon_c.specs.declared.answer.Ending.TheVariants.{Written, First, Room}
 use Rattle.bpfcanon_c.specs.declared.answer.Ending.TheVariants as ending

@@ -2,7 +2,7 @@
 use Rattle.std.specs.Prelude.{◌≡◌, ◌≤◌, ◌*◌, ℕ, Some, List, ◌<◌, All, length, take, slice_get}
 use Rattle.std.specs.List.{AllZip}
 use Rattle.bpf_words.specs.declared.Order.{Order}
-use Rattle.bpf_insn.specs.{declared.insn.Insn.Insn, Table.IsInsn, Spelling.InsnFile}
+use Rattle.bpf_insn.specs.{declared.insn.Insn.Insn, Table.IsInsn, Encoding.InsnFile}
 use Rattle.bpfcanon_c.specs.declared.insn_rows.InsnRow.{InsnRow}
 use Rattle.bpfcanon_c.specs.declared.answer.{Answer.Answer, Ending.Ending, Ending.TheVariants.Memory, FaultCode.FaultCode}
 use Rattle.bpfcanon_c.specs.Outputs.{EndsInOrder, EndsOutput, IsAnswerOf}

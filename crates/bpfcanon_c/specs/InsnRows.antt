@@ -10,7 +10,7 @@ use Rattle.bpf_insn.specs.declared.group.Group.{Group, TheVariants.Base32, TheVa
 use Rattle.bpf_insn.specs.declared.insn.Insn.{Insn}
 use Rattle.bpf_insn.specs.declared.insn.Insn.TheVariants.{Alu, Movsx, Neg, Swap, Jump, JumpLong, Branch, CallHelper, CallLocal, CallBtf, Exit, Load, LoadSigned, StoreImm, StoreReg, Atomic, Wide, PacketAbs, PacketInd}
 use Rattle.bpf_insn.specs.Table.{alu_code, alu_offset, branch_code, swap_opcode, swap_bits, atomic_number, movsx_bits, movsx_width, register_number, source_bit, source, immediate, wide_source, wide_imm, wide_next_imm}
-use Rattle.bpf_insn.specs.{Spelling.spelling, Groups.group_of}
+use Rattle.bpf_insn.specs.{Encoding.encoding, Groups.group_of}
 use Rattle.bpfcanon_c.specs.declared.insn_rows.InsnRow.{InsnRow}
 
 -- ---- numbers of bits
@@ -91,4 +91,4 @@ row_at at i = record (form_row i) { group = group_bit (group_of i); pos = at }
 -- the records of the instructions of a file from an offset on, each with the offset of its encoding
 abbrev pub rows_from : Order → ℕ → List Insn → List InsnRow
 rows_from o at [] = []
-rows_from o at (i ∷ l) = row_at at i ∷ rows_from o (at + length (spelling o i)) l
+rows_from o at (i ∷ l) = row_at at i ∷ rows_from o (at + length (encoding o i)) l

@@ -1,9 +1,8 @@
--- Only private contracts cite this file.
 -- What is known of instructions and their records while they are decoded or encoded.
 use Rattle.std.specs.Prelude.{◌≡◌, ℕ, List, All, length, take}
 use Rattle.std.specs.List.{AllZip}
 use Rattle.bpf_words.specs.declared.Order.{Order, TheVariants.Little}
-use Rattle.bpf_insn.specs.{declared.insn.Insn.Insn, Table.IsInsn, Spelling.InsnFile, Spelling.file_of, Spelling.spelling, Faults.BeginsWith}
+use Rattle.bpf_insn.specs.{declared.insn.Insn.Insn, Table.IsInsn, Encoding.InsnFile, Encoding.file_of, Encoding.encoding, Faults.BeginsWith}
 use Rattle.bpfcanon_c.specs.declared.insn_rows.InsnRow.{InsnRow}
 use Rattle.bpfcanon_c.specs.{InsnRows.row_at, InsnRows.rows_from, InsnEncoding.SaysInsn}
 
@@ -25,7 +24,7 @@ pub record DecodesTo (o : Order) (bytes : List ℕ) (k at : ℕ) (out : List Ins
 
 -- this is the record, at an offset of its file, of the instruction that the bytes begin with, and the length of its encoding
 abbrev pub HasPut : Order → List ℕ → ℕ → InsnRow → ℕ → Type 0
-HasPut o bytes at row len = (i : Insn) → BeginsWith o i bytes → (row ≡ row_at at i) × (len ≡ length (spelling o i))
+HasPut o bytes at row len = (i : Insn) → BeginsWith o i bytes → (row ≡ row_at at i) × (len ≡ length (encoding o i))
 
 -- ---- encoding
 

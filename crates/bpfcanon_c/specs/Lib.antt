@@ -1,7 +1,12 @@
 pub mod Answers
 pub mod BtfDecoding
+pub mod BtfEncoding
+pub mod BtfPlain
+pub mod BtfPlanSteps
+pub mod BtfRefusal
 pub mod BtfRest
 pub mod BtfRows
+pub mod BtfSaying
 pub mod Endings
 pub mod Fronts
 pub mod GroupMasks

@@ -1,7 +1,7 @@
 -- What the calls on listings return to C.
 use Rattle.std.specs.Prelude.{◌≡◌, ◌≤◌, ◌*◌, ℕ, List, length}
 use Rattle.bpf_words.specs.declared.Order.{Order}
-use Rattle.bpf_insn.specs.{declared.insn.Insn.Insn, Spelling.InsnFile, Spelling.file_of}
+use Rattle.bpf_insn.specs.{declared.insn.Insn.Insn, Encoding.InsnFile, Encoding.file_of}
 use Rattle.bpf_text.specs.declared.insn.fault.ListError.{ListError}
 use Rattle.bpf_text.specs.declared.insn.fault.ListError.TheVariants as list
 use Rattle.bpf_text.specs.{declared.insn.fault.LineFault.LineFault, insn.LineCauseNames.line_cause_number}

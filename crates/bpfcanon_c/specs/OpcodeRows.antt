@@ -1,4 +1,3 @@
--- Only private contracts cite this file.
 -- The records that are made from slots and from what their opcodes determine.
 use Rattle.std.specs.Prelude.{◌≡◌, ℕ, ℤ, pos, None}
 use Rattle.std.specs.Bool.{OnFalse}

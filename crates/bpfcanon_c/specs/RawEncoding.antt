@@ -1,9 +1,8 @@
--- Only private contracts cite this file.
 -- The encoding of a record: that of the instruction which it says, and some bytes if it says none.
 use Rattle.std.specs.Prelude.{◌==◌, ◌/◌, ◌%◌, ◌++◌, ℕ, ℤ, pos, Option, Some, None, List, if◌then◌else◌}
 use Rattle.bpf_words.specs.declared.Order.{Order}
-use Rattle.bpf_words.specs.Slots.{Fields, fields, spelled}
-use Rattle.bpf_insn.specs.{Table.code_opcode, Table.mode_opcode, Spelling.second_slot}
+use Rattle.bpf_words.specs.Slots.{Fields, fields, encoded}
+use Rattle.bpf_insn.specs.{Table.code_opcode, Table.mode_opcode, Encoding.second_slot}
 use Rattle.bpfcanon_c.specs.declared.insn_rows.InsnRow.{InsnRow}
 
 abbrev pub size_code : ℕ → ℕ
@@ -48,4 +47,4 @@ abbrev pub raw_next : InsnRow → Option ℤ
 raw_next r = if r.form == 17 then Some r.next_imm else None
 
 abbrev pub raw_bytes : Order → InsnRow → List ℕ
-raw_bytes o r = spelled o (raw_fields r) ++ second_slot o (raw_next r)
+raw_bytes o r = encoded o (raw_fields r) ++ second_slot o (raw_next r)

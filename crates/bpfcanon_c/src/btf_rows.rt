@@ -4,15 +4,16 @@
 //! input, where it stays: a copy would have to be owned.
 
 ghost use Rattle.std.specs.Prelude.{◌≡◌, ◌<◌, ◌^◌, length};
-ghost use Rattle.btf_types.specs.{Names.head_name, Values.head_value};
+ghost use Rattle.btf_types.specs.{Names.head_name, Names.item_name};
+ghost use Rattle.btf_types.specs.Values.{head_value, item_value};
 ghost use Rattle.bpfcanon_c.specs.BtfRows as spec;
 
-use btf_types::Head;
+use btf_types::{Head, Item};
 
 /// A type: `bpfcanon_btf_type` of `capi/bpfcanon.h`, field by field. A field that its kind does not
 /// have is 0.
 #[repr(C)]
-#[derive(Clone, Copy)]
+#[derive(Clone, Copy, PartialEq, Eq)]
 pub struct TypeRow {
     /// The kind, 1 to 19 (btf.rst section 2.2).
     pub kind: u8,
@@ -49,7 +50,7 @@ pub struct TypeRow {
 /// An item of a type: `bpfcanon_btf_item` of `capi/bpfcanon.h`, field by field. A field that its
 /// kind does not have is 0.
 #[repr(C)]
-#[derive(Clone, Copy)]
+#[derive(Clone, Copy, PartialEq, Eq)]
 pub struct ItemRow {
     /// The offset of the name in bytes from the start of the input.
     pub name: u32,
@@ -73,7 +74,7 @@ pub struct ItemRow {
 
 /// A record with this kind, and 0 in each other field.
 #[inline(always)]
-fn bare_type(kind: u8) -> TypeRow
+pub fn bare_type(kind: u8) -> TypeRow
     ensures { result ≡ spec.bare_type kind }
 {
     TypeRow {
@@ -164,6 +165,23 @@ fn head_row(head: Head<'_>) -> TypeRow
     }
 }
 
+/// The record of an item, without its name.
+#[rattlefmt::skip]
+#[inline(always)]
+fn item_parts(item: Item<'_>) -> ItemRow
+    ensures { result ≡ spec.item_parts (item_value item.entry) }
+{
+    match item {
+        Item::Member { target, bit_offset, width, .. } =>
+            ItemRow { target, bit_offset, width: u32::from(width), ..bare_item(1) },
+        Item::EnumValue { value, .. } => ItemRow { value: u64::from(value), ..bare_item(2) },
+        Item::Value64 { value, .. } => ItemRow { value, ..bare_item(3) },
+        Item::Param { target, .. } => ItemRow { target, ..bare_item(4) },
+        Item::Entry { target, offset, size } =>
+            ItemRow { target, offset, size, ..bare_item(5) },
+    }
+}
+
 /// The record of a type whose name is at this offset of the file.
 #[inline(always)]
 pub fn type_row(name: u32, first: u32, items: u16, head: Head<'_>) -> TypeRow
@@ -176,5 +194,18 @@ pub fn type_row(name: u32, first: u32, items: u16, head: Head<'_>) -> TypeRow
         items,
         first,
         ..head_row(head)
+    }
+}
+
+/// The record of an item whose name is at this offset of the file.
+#[inline(always)]
+pub fn item_row(name: u32, item: Item<'_>) -> ItemRow
+    requires { length (item_name (item_value item)) < 2 ^ 32 }
+    ensures { result ≡ spec.item_row name (item_value item.entry) }
+{
+    ItemRow {
+        name,
+        name_len: item.name().len() as u32,
+        ..item_parts(item)
     }
 }

@@ -8,7 +8,7 @@
 ghost use Rattle.std.specs.Prelude.{◌≡◌, ◌<◌, ◌-◌, ◌++◌, length, replicate};
 ghost use Rattle.std.specs.Prelude.{Decides, MatchOption, MatchResult};
 ghost use Rattle.bpf_words.specs.declared.Order.TheVariants.{Little};
-ghost use Rattle.bpf_insn.specs.{declared.insn.Insn.Insn, Table.IsInsn, Spelling.spelling};
+ghost use Rattle.bpf_insn.specs.{declared.insn.Insn.Insn, Table.IsInsn, Encoding.encoding};
 ghost use Rattle.bpfcanon_c.specs.InsnEncoding as enc;
 ghost use Rattle.bpfcanon_c.specs.InsnSteps.{SayInsns};
 ghost use Rattle.bpfcanon_c.specs.RawEncoding as spec;
@@ -114,7 +114,7 @@ fn same_numbers(a: InsnRow, b: InsnRow) -> bool
 /// records say.
 #[tactic(auto, using(crate::proofs::InsnEncoding::raw_is))]
 fn raw_bytes(to: Order, row: InsnRow) -> ([u8; 16], usize)
-    ensures spelled { result.0 ≡ spec.raw_bytes to row ++ replicate (16 - result.1) 0 }
+    ensures encoded { result.0 ≡ spec.raw_bytes to row ++ replicate (16 - result.1) 0 }
     ensures len { result.1 ≡ length (spec.raw_bytes to row) }
 {
     let mut bytes = [0; 16];
@@ -137,7 +137,7 @@ fn raw_bytes(to: Order, row: InsnRow) -> ([u8; 16], usize)
 /// The instruction that a record says, and its length in bytes; `None` if the record says none.
 fn insn_of(row: InsnRow) -> Option<(Insn, usize)>
     ensures { MatchOption result ((i : Insn) → IsInsn i → ¬ enc.SaysInsn row i)
-        (λ r. IsInsn r.0 × enc.SaysInsn row r.0 × (r.1 ≡ length (spelling Little r.0))) }
+        (λ r. IsInsn r.0 × enc.SaysInsn row r.0 × (r.1 ≡ length (encoding Little r.0))) }
 {
     let (bytes, len) = raw_bytes(Order::Little, row);
     let Ok(read) = read_insn(Order::Little, &bytes[..len]) else {

@@ -13,6 +13,8 @@
 mod answer;
 mod btf;
 mod btf_decode;
+mod btf_encode;
+mod btf_plain;
 mod btf_rows;
 mod front;
 mod insn;

@@ -74,7 +74,7 @@ pub put_items-at-requires-clause-kinds : goal.put_items-at-requires-clause-kinds
 put_items-at-requires-clause-kinds c =
     let v = c.args.table.now in
     let k = c.loop-k.k in
-    let fits = kinds_fit v k c.count-k-end.ensures.good (omega (arith, c.count-k-end.ensures.count)) in
+    let fits = kinds_fit v k c.count-k-end.ensures.valid (omega (arith, c.count-k-end.ensures.count)) in
     let is : c.item_kind.result ≡ item_kind (record_at v (k + 1)).head = c.item_kind.ensures ∙ ap item_kind c.file_head-head.ensures in
     λ n d h. fits n d h ∙ sym is
 
@@ -105,7 +105,7 @@ loop-k-preserved c =
     let middle : first + count - first ≡ count = omega arith in
     let head : head_bytes r.head ≡ c.head_len.result = sym (c.head_len.ensures ∙ ap head_bytes c.file_head-head.ensures) in
     let kind : item_kind r.head ≡ c.item_kind.result = sym (c.item_kind.ensures ∙ ap item_kind c.file_head-head.ensures) in
-    let ip = items_placed at first v k c.count-k-end.ensures.good inside in
+    let ip = items_placed at first v k c.count-k-end.ensures.valid inside in
     let size = item_bytes c.item_kind.result in
     let items_are : items_from (at + c.head_len.result) size r.items ≡ placed_items here =
     ap (λ (n : ℕ). items_from (at + n) size r.items) (sym head)

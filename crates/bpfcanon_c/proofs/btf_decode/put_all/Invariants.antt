@@ -1,6 +1,6 @@
 use Rattle.std.proofs.Common.{◌≡◌, ◌+◌, length, take, drop, []}
 use Rattle.std.specs.List.{AllZip, flat_map, sum_by}
-use Rattle.btf_types.specs.Good.{record_size}
+use Rattle.btf_types.specs.Valid.{record_size}
 use Rattle.bpfcanon_c.specs.BtfRows.{SaysItem, SaysType, items_of, placed, placed_items}
 use Rattle.bpfcanon_c.specs.BtfRest.{Rest}
 use Rattle.bpfcanon_c.proofs.btf_decode.put_all.Given as goal

@@ -2,7 +2,7 @@
 use Rattle.std.proofs.Common.{◌≡◌, ◌∙◌, ℕ, true, Ok, length, sym, ap, subst}
 use Rattle.bpf_words.specs.declared.Order.{TheVariants.Little}
 use Rattle.bpf_insn.specs.declared.insn.Insn.{Insn}
-use Rattle.bpf_insn.specs.Spelling.{spelling}
+use Rattle.bpf_insn.specs.Encoding.{encoding}
 use Rattle.bpfcanon_c.specs.declared.insn_rows.InsnRow.{InsnRow}
 use Rattle.bpfcanon_c.specs.InsnRows.{form_row}
 use Rattle.bpfcanon_c.specs.InsnEncoding.{SameParts, SameNumbers}
@@ -13,16 +13,16 @@ use Rattle.bpfcanon_c.proofs.insn_encode.insn_of.Goals.{else-same_parts-via-then
 pub returns-in_default : goal.returns-in_default
 returns-in_default c =
     λ i is says.
-    let b = begins c.args.row c.raw_bytes-len.result.0 c.raw_bytes-len.result.1 i c.raw_bytes-len.ensures.spelled c.raw_bytes-len.ensures.len is says in
-    c.in_default.not-Ok (i, length (spelling Little i)) (c.read_insn.ensures.all i b)
+    let b = begins c.args.row c.raw_bytes-len.result.0 c.raw_bytes-len.result.1 i c.raw_bytes-len.ensures.encoded c.raw_bytes-len.ensures.len is says in
+    c.in_default.not-Ok (i, length (encoding Little i)) (c.read_insn.ensures.all i b)
 
 pub returns-else-same_parts : goal.returns-else-same_parts
 returns-else-same_parts c =
     λ i is says.
-    let b = begins c.args.row c.raw_bytes-len.result.0 c.raw_bytes-len.result.1 i c.raw_bytes-len.ensures.spelled c.raw_bytes-len.ensures.len is says in
-    let all : c.read_insn.result ≡ Ok (i, length (spelling Little i)) = c.read_insn.ensures.all i b in
+    let b = begins c.args.row c.raw_bytes-len.result.0 c.raw_bytes-len.result.1 i c.raw_bytes-len.ensures.encoded c.raw_bytes-len.ensures.len is says in
+    let all : c.read_insn.result ≡ Ok (i, length (encoding Little i)) = c.read_insn.ensures.all i b in
     let was : c.read_insn.result ≡ Ok c.in-Ok.read = c.in-Ok.is in
-    let pair : c.in-Ok.read ≡ (i, length (spelling Little i)) = cc in
+    let pair : c.in-Ok.read ≡ (i, length (encoding Little i)) = cc in
     let same : i ≡ c.in-Ok.read.0 = sym (ap (λ (r : Insn × ℕ). r.0) pair) in
     let form : form_row i ≡ c.form_row-form.result = ap form_row same ∙ sym c.form_row-form.ensures in
     let parts : SameParts c.args.row c.form_row-form.result = subst (λ (x : InsnRow). SameParts c.args.row x) form says.parts in

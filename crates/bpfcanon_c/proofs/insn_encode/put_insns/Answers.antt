@@ -11,7 +11,7 @@ pub slice_bounds-copy_from_slice-end : goal.slice_bounds-copy_from_slice-end
 slice_bounds-copy_from_slice-end c =
     let made = c.raw_bytes-len in
     let next =
-    next_bytes c.args.to c.args.rows.now c.loop-k.k c.loop-k.at c.loop-k.out _ made.result.0 made.result.1 c.loop-k.invariant c.loop-k-test.true made.ensures.spelled made.ensures.len
+    next_bytes c.args.to c.args.rows.now c.loop-k.k c.loop-k.at c.loop-k.out _ made.result.0 made.result.1 c.loop-k.invariant c.loop-k-test.true made.ensures.encoded made.ensures.len
     in
     omega (arith, next.inside)
 
@@ -23,7 +23,7 @@ loop-k-preserved c =
     let len = made.result.1 in
     let written = c.copy_from_slice.new.self in
     let next =
-    next_bytes c.args.to c.args.rows.now c.loop-k.k at out _ made.result.0 len c.loop-k.invariant c.loop-k-test.true made.ensures.spelled made.ensures.len
+    next_bytes c.args.to c.args.rows.now c.loop-k.k at out _ made.result.0 len c.loop-k.invariant c.loop-k-test.true made.ensures.encoded made.ensures.len
     in
     let source : written ≡ take len made.result.0 = c.copy_from_slice.ensures.after in
     let long : length written ≡ len = ap length source ∙ next.long in

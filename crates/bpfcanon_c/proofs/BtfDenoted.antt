@@ -1,0 +1,82 @@
+-- The BTF of records that say valid types denotes these types.
+use Rattle.std.proofs.Common.{◌≡◌, ◌+◌, ◌*◌, ◌++◌, ◌∙◌, ℕ, List, [], ◌∷◌, length, map, refl, sym, ap, inl, lit≤, arith}
+use Rattle.std.specs.List.{All, AllZip, sum_by}
+use Rattle.std.proofs.lemmas.List.Elements.{All-head, All-tail}
+use Rattle.std.proofs.lemmas.List.Sums.{sum_by-cons}
+use Rattle.bpf_words.specs.declared.Order.TheVariants.{Little}
+use Rattle.btf_raw.specs.{Header.header, Frames.bytes_of, Frames.section_of}
+use Rattle.btf_raw.specs.Kinds.{tail_words}
+use Rattle.btf_types.specs.Values.{TypeRecord}
+use Rattle.btf_types.specs.{Denotes.Denotes, Encoding.Encodes, Encoding.kind_number, checks.Numbers.TypeFacts}
+use Rattle.btf_types.specs.Valid.{IsValidRecord, facts, record_size}
+use Rattle.btf_types.proofs.{TableLemmas.TableSteps.concat-map, TableLemmas.TableSteps.encoded_bytes}
+use Rattle.bpf_canon.proofs.BtfLemmas.CanonicalFiles.{types_size}
+use Rattle.bpfcanon_c.specs.declared.btf_rows.{TypeRow.TypeRow, ItemRow.ItemRow}
+use Rattle.bpfcanon_c.specs.declared.btf_plain.Plan.{Plan}
+use Rattle.bpfcanon_c.specs.BtfSaying.{TellsType, TellTypes}
+use Rattle.bpfcanon_c.specs.BtfPlain as plain
+use Rattle.bpfcanon_c.specs.BtfPlain.{IsPlan, HoldsNames, names_section, row_size, row_words}
+use Rattle.bpfcanon_c.proofs.BtfNames.{section_ends, section_long}
+use Rattle.bpfcanon_c.proofs.BtfRecordWords.{kind_is}
+use Rattle.bpfcanon_c.proofs.BtfTold.{type_encodes}
+
+-- ---- sizes
+
+pub kind_told : (strings : List ℕ) (items : List ItemRow) (row : TypeRow) (r : TypeRecord) → TellsType strings items row r → row.kind ≡ kind_number r.head
+kind_told strings items row r told = ap (λ (t : TypeRow). t.kind) told.form ∙ kind_is row.name row.first (length r.items) r.head
+
+size_told : (strings : List ℕ) (items : List ItemRow) (row : TypeRow) (r : TypeRecord) → TellsType strings items row r → row_size row ≡ record_size r
+unfolding tail_words
+size_told strings items row r told =
+    let kind = kind_told strings items row r told in
+    let count : row.items ≡ length r.items = ap (λ (t : TypeRow). t.items) told.form in
+    ap (λ (k : ℕ). 4 * (3 + tail_words k row.items)) kind ∙ ap (λ (n : ℕ). 4 * (3 + tail_words (kind_number r.head) n)) count ∙ omega arith
+
+pub sizes_told : (strings : List ℕ) (items : List ItemRow) (types : List TypeRow) (v : List TypeRecord) → AllZip (TellsType strings items) types v → sum_by row_size types ≡ sum_by record_size v
+sizes_told strings items [] [] told = refl
+sizes_told strings items [] (r ∷ v) told = absurd told
+sizes_told strings items (row ∷ types) [] told = absurd told
+sizes_told strings items (row ∷ types) (r ∷ v) told =
+    omega (arith, sum_by-cons row_size row types, sum_by-cons record_size r v, size_told strings items row r told.0, sizes_told strings items types v told.1)
+
+-- ---- the file
+
+types_encode : (strings : List ℕ) (items : List ItemRow) (p : Plan) (facts : List TypeFacts) (types : List TypeRow) (v : List TypeRecord) → plain.IsNamesPart strings p.names
+    → AllZip (TellsType strings items) types v → All (HoldsNames p.names items) types → All (IsValidRecord facts) v
+    → AllZip (Encodes (names_section strings p.names)) v (plain.frames p.names.start types items)
+types_encode strings items p facts [] [] part told held valid = tt
+types_encode strings items p facts [] (r ∷ v) part told held valid = absurd told
+types_encode strings items p facts (row ∷ types) [] part told held valid = absurd told
+types_encode strings items p facts (row ∷ types) (r ∷ v) part told held valid = (
+  type_encodes strings p.names facts items row r part told.0 (All-head (IsValidRecord facts) r v valid) (All-head (HoldsNames p.names items) row types held),
+  types_encode strings items p facts types v part told.1 (All-tail (HoldsNames p.names items) row types held) (All-tail (IsValidRecord facts) r v valid),
+)
+
+pub told_denotes : (types : List TypeRow) (items : List ItemRow) (strings : List ℕ) (p : Plan) (v : List TypeRecord) → IsPlan strings types items p → TellTypes types items strings v
+    → Denotes (plain.plain p types items strings) v
+told_denotes types items strings p v plan told =
+    let section = names_section strings p.names in
+    let fs = plain.frames p.names.start types items in
+    let records = section_of Little fs in
+    let encodes = types_encode strings items p (facts v) types v plan.part told.each plan.holds told.valid.each in
+    let size : length records ≡ sum_by record_size v = types_size Little section (facts v) v fs told.valid.each encodes in
+    let same : p.types_len ≡ length records = plan.size ∙ sizes_told strings items types v told.each ∙ sym size in
+    record {
+      order = Little;
+      types = records;
+      strings = section;
+      encodings = map (bytes_of Little) fs;
+      cut = record {
+        header_len = 24;
+        at_least = lit≤ tt;
+        at_most = lit≤ tt;
+        types_fit = omega (arith, size, told.valid.size);
+        some_strings = omega arith;
+        strings_fit = section_long strings p.names plan.part;
+        parts = inl (ap (λ (n : ℕ). header Little 24 0 n n (length section) ++ records ++ section) same);
+      };
+      nul_ends = section_ends strings p.names plan.part;
+      encoded = encoded_bytes Little section v fs encodes;
+      whole = sym (concat-map Little fs);
+      valid = told.valid;
+    }

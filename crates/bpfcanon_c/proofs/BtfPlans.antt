@@ -1,0 +1,139 @@
+-- The part of the strings that names use: one name or one type more, or the cause why there isn't one.
+use Rattle.std.proofs.Common.{◌≡◌, ◌<◌, ◌≤◌, ◌+◌, ◌-◌, ◌++◌, ◌∙◌, ℕ, List, [], ◌∷◌, length, take, get_or, refl, sym, ap, inl, inr, arith}
+use Rattle.std.specs.List.{All, sum_by}
+use Rattle.std.proofs.lemmas.List.{take_more, take_all}
+use Rattle.std.proofs.lemmas.List.Elements.{All-head, All-more, All-same, All-take, All-weaker}
+use Rattle.std.proofs.lemmas.List.Sums.{sum_by_push, sum_by-take-le}
+use Rattle.std.proofs.lemmas.Option.{slice_get-get_or}
+use Rattle.btf_raw.specs.Header.{TYPES_LIMIT}
+use Rattle.btf_raw.specs.declared.cause.BtfCause.{BtfCause}
+use Rattle.btf_raw.specs.declared.cause.BtfCause.TheVariants.{TypeLength, StringLength, KindNumber, TailCut, NameRange}
+use Rattle.bpf_canon.proofs.BtfLemmas.CanonicalEncodes.{All-front, All-back}
+use Rattle.bpfcanon_c.specs.declared.btf_rows.{TypeRow.TypeRow, ItemRow.ItemRow}
+use Rattle.bpfcanon_c.specs.declared.btf_plain.NamesPart.{NamesPart}
+use Rattle.bpfcanon_c.specs.BtfSaying.{IsNear, AreNear, own_rows}
+use Rattle.bpfcanon_c.specs.BtfPlain.{IsNamesPart, HoldsName, HoldsNames, row_size}
+use Rattle.bpfcanon_c.specs.BtfPlanSteps.{IsLarger, AddsName, AddsNames, AddsType, AddsTypes, NameRefusal, TypeRefusal}
+use Rattle.bpfcanon_c.specs.BtfRefusal.{HasName, IsWhole, CanBeWritten, IsUnwritten, LastFault, IsIndexAt}
+
+record FirstAndNext {X : Type 0} (P : X → Type 0) (first : List X) (next : X) : Type 0 where
+  first-all : All P first
+  next-is : P next
+
+all_of_more : {X : Type 0} (P : X → Type 0) (xs : List X) (k : ℕ) (d : X) → k < length xs → All P (take (k + 1) xs) → FirstAndNext P (take k xs) (get_or xs k d)
+all_of_more P xs k d h all =
+    let last = get_or xs k d ∷ [] in
+    let both : All P (take k xs ++ last) = All-same P (take k xs ++ last) (take (k + 1) xs) (sym (take_more xs k d h)) all in
+    record { first-all = All-front P (take k xs) last both; next-is = All-head P (get_or xs k d) [] (All-back P (take k xs) last both) }
+
+-- ---- one name more
+
+pub names_more : (strings : List ℕ) (p q q' : NamesPart) (r : TypeRow) (own : List ItemRow) (k : ℕ) (d : ItemRow) → k < length own → AddsNames strings p q r (take k own)
+    → AddsName strings q q' (get_or own k d).name (get_or own k d).name_len → AddsNames strings p q' r (take (k + 1) own)
+names_more strings p q q' r own k d h before one = record {
+  part = one.part;
+  larger = λ at len held. one.larger at len (before.larger at len held);
+  name = one.larger r.name r.name_len before.name;
+  names =
+      All-more (λ (i : ItemRow). HoldsName q' i.name i.name_len) own k d h
+      (All-weaker (λ (i : ItemRow). HoldsName q i.name i.name_len) (λ (i : ItemRow). HoldsName q' i.name i.name_len) (λ i held. one.larger i.name i.name_len held) (take k own) before.names) one.holds;
+  has_name = before.has_name;
+  has_names = All-more (λ (i : ItemRow). HasName strings i.name i.name_len) own k d h before.has_names one.has;
+  within = λ start in' name all.
+      let parts = all_of_more (λ (i : ItemRow). IsNear start i.name i.name_len) own k d h all in
+      one.within start (before.within start in' name parts.first-all) parts.next-is;
+}
+
+pub own_refused : (strings : List ℕ) (items : List ItemRow) (p : NamesPart) (r : TypeRow) (c : BtfCause) → NameRefusal strings p r.name r.name_len c → TypeRefusal strings items p r c
+own_refused strings items p r NameRange none = λ has. none has.name
+own_refused strings items p r StringLength none = λ start in' near. none start in' near.own
+own_refused strings items p r c none = absurd none
+
+pub item_refused : (strings : List ℕ) (items : List ItemRow) (p q : NamesPart) (r : TypeRow) (k : ℕ) (d : ItemRow) (c : BtfCause) → k < length (own_rows items r)
+    → AddsNames strings p q r (take k (own_rows items r)) → NameRefusal strings q (get_or (own_rows items r) k d).name (get_or (own_rows items r) k d).name_len c → TypeRefusal strings items p r c
+item_refused strings items p q r k d NameRange h before none = λ has. none (has.names k d h)
+item_refused strings items p q r k d StringLength h before none = λ start in' near.
+    none start (before.within start in' near.own (All-take (λ (i : ItemRow). IsNear start i.name i.name_len) k (own_rows items r) near.each)) (near.each k d h)
+item_refused strings items p q r k d c h before none = absurd none
+
+-- ---- one type more
+
+still_held : (p q : NamesPart) (items : List ItemRow) → IsLarger p q → (r : TypeRow) → HoldsNames p items r → HoldsNames q items r
+still_held p q items larger r held = record {
+  name = larger r.name r.name_len held.name;
+  names = All-weaker (λ (i : ItemRow). HoldsName p i.name i.name_len) (λ (i : ItemRow). HoldsName q i.name i.name_len) (λ i h. larger i.name i.name_len h) (own_rows items r) held.names;
+}
+
+pub sizes_are : (types : List TypeRow) (k : ℕ) (d : TypeRow) → k < length types → sum_by row_size (take (k + 1) types) ≡ sum_by row_size (take k types) + row_size (get_or types k d)
+sizes_are types k d h = ap (λ (ts : List TypeRow). sum_by row_size ts) (take_more types k d h) ∙ sum_by_push row_size (take k types) (get_or types k d)
+
+pub types_more : (strings : List ℕ) (items : List ItemRow) (p q : NamesPart) (len len' : ℕ) (types : List TypeRow) (k : ℕ) (d : TypeRow) → k < length types
+    → AddsTypes strings items p len (take k types) → AddsType strings items p q (get_or types k d) → len' ≡ len + row_size (get_or types k d) → len' ≤ TYPES_LIMIT
+    → AddsTypes strings items q len' (take (k + 1) types)
+types_more strings items p q len len' types k d h before one more fits = record {
+  part = one.part;
+  holds = All-more (HoldsNames q items) types k d h (All-weaker (HoldsNames p items) (HoldsNames q items) (still_held p q items one.larger) (take k types) before.holds) one.holds;
+  whole = All-more (IsWhole strings items) types k d h before.whole one.whole;
+  within = λ start all.
+      let parts = all_of_more (AreNear items start) types k d h all in
+      one.within start (before.within start parts.first-all) parts.next-is;
+  size = more ∙ ap (λ (n : ℕ). n + row_size (get_or types k d)) before.size ∙ sym (sizes_are types k d h);
+  fits = fits;
+}
+
+-- names of one part are near
+name_near : (strings : List ℕ) (p : NamesPart) (at len : ℕ) → IsNamesPart strings p → HoldsName p at len → IsNear p.start at len
+name_near strings p at len part held = record { after = held.after; before = λ some. let low = held.before some in omega (arith, part.short) }
+
+pub names_near : (strings : List ℕ) (items : List ItemRow) (p : NamesPart) → IsNamesPart strings p → (r : TypeRow) → HoldsNames p items r → AreNear items p.start r
+names_near strings items p part r held = record {
+  own = name_near strings p r.name r.name_len part held.name;
+  each = All-weaker (λ (i : ItemRow). HoldsName p i.name i.name_len) (λ (i : ItemRow). IsNear p.start i.name i.name_len) (λ i n. name_near strings p i.name i.name_len part n) (own_rows items r) held.names;
+}
+
+written : (strings : List ℕ) (items : List ItemRow) (p : NamesPart) (len : ℕ) (types : List TypeRow) → AddsTypes strings items p len types → CanBeWritten strings types items
+written strings items p len types a = record {
+  whole = a.whole;
+  short = omega (arith, a.size, a.fits);
+  start = p.start;
+  near = All-weaker (HoldsNames p items) (AreNear items p.start) (names_near strings items p a.part) types a.holds;
+}
+
+last_fault : (strings : List ℕ) (items : List ItemRow) (p : NamesPart) (len : ℕ) (types : List TypeRow) (k : ℕ) (d : TypeRow) (c : BtfCause) → k < length types → AddsTypes strings items p len (take k types)
+    → TypeRefusal strings items p (get_or types k d) c → LastFault strings items (take (k + 1) types) (get_or types k d) c
+last_fault strings items p len types k d KindNumber h before none = none
+last_fault strings items p len types k d TailCut h before none = none
+last_fault strings items p len types k d NameRange h before none = none
+last_fault strings items p len types k d StringLength h before none = λ start all.
+    let parts = all_of_more (AreNear items start) types k d h all in
+    none start (before.within start parts.first-all) parts.next-is
+last_fault strings items p len types k d c h before none = absurd none
+
+pub unwritten : (strings : List ℕ) (items : List ItemRow) (p : NamesPart) (len : ℕ) (types : List TypeRow) (k : ℕ) (d : TypeRow) (c : BtfCause) → k < length types → AddsTypes strings items p len (take k types)
+    → TypeRefusal strings items p (get_or types k d) c → IsUnwritten strings types items c k
+unwritten strings items p len types k d c h before none = record {
+  row = get_or types k d;
+  row_is = slice_get-get_or types k d h;
+  before = written strings items p len (take k types) before;
+  fault = last_fault strings items p len types k d c h before none;
+}
+
+pub too_long : (strings : List ℕ) (items : List ItemRow) (p : NamesPart) (len : ℕ) (types : List TypeRow) (k : ℕ) (d : TypeRow) → k < length types → AddsTypes strings items p len (take k types)
+    → TYPES_LIMIT < len + row_size (get_or types k d) → IsUnwritten strings types items TypeLength k
+too_long strings items p len types k d h before long = record {
+  row = get_or types k d;
+  row_is = slice_get-get_or types k d h;
+  before = written strings items p len (take k types) before;
+  fault = omega (arith, sizes_are types k d h, before.size);
+}
+
+-- ---- where a record is
+
+pub index_here : (types : List TypeRow) (k left place : ℕ) (d : TypeRow) → k < length types → left + sum_by row_size (take k types) ≡ place - 24 → left < row_size (get_or types k d) → IsIndexAt types place k
+index_here types k left place d h sum low = record { inside = inl h; begins = omega arith; next = inl (omega (arith, sizes_are types k d h)) }
+
+pub index_last : (types : List TypeRow) (k left place index : ℕ) → length types ≤ k → left + sum_by row_size (take k types) ≡ place - 24 → index ≡ length types - 1 → IsIndexAt types place index
+index_last [] k left place index h sum e = record { inside = inr (refl, e); begins = omega (arith, sum_by-take-le row_size [] index); next = inr (omega arith) }
+index_last (r ∷ types) k left place index h sum e =
+    let all = ap (λ (ts : List TypeRow). sum_by row_size ts) (take_all k (r ∷ types) h) in
+    record { inside = inl (omega arith); begins = omega (arith, all, sum_by-take-le row_size (r ∷ types) index); next = inr (omega arith) }

@@ -1,0 +1,83 @@
+-- The plan of the BTF of records, made name by name and type by type.
+use Rattle.std.specs.Prelude.{◌≡◌, ◌≢◌, ◌<◌, ◌≤◌, ◌+◌, ℕ, List, IsFalse, length}
+use Rattle.std.specs.List.{All, AllZip, sum_by}
+use Rattle.btf_raw.specs.declared.cause.BtfCause.{BtfCause}
+use Rattle.btf_raw.specs.declared.cause.BtfCause.TheVariants.{StringLength, KindNumber, TailCut, NameRange}
+use Rattle.btf_raw.specs.{Header.STRINGS_LIMIT, Header.TYPES_LIMIT, Kinds.is_kind, Kinds.item_words}
+use Rattle.btf_types.specs.{Values.TypeHead, Values.TypeRecord, Names.head_name}
+use Rattle.bpfcanon_c.specs.declared.btf_rows.{TypeRow.TypeRow, ItemRow.ItemRow}
+use Rattle.bpfcanon_c.specs.declared.btf_plain.NamesPart.{NamesPart}
+use Rattle.bpfcanon_c.specs.BtfRows.{type_row}
+use Rattle.bpfcanon_c.specs.BtfSaying.{IsNamed, IsNear, AreNear, TellsType, own_rows}
+use Rattle.bpfcanon_c.specs.BtfPlain.{IsNamesPart, HoldsName, HoldsNames, row_size}
+use Rattle.bpfcanon_c.specs.BtfRefusal.{HasName, HasNames, IsWhole, IsOtherAt}
+
+-- the part is within 16 MiB from `start` on
+pub record IsPartIn (start : ℕ) (p : NamesPart) : Type 0 where
+  pub after : 0 < p.end → start ≤ p.start
+  pub before : 0 < p.end → p.end < start + STRINGS_LIMIT
+
+-- a part has the names of another
+abbrev pub IsLarger : NamesPart → NamesPart → Type 0
+IsLarger p q = (at len : ℕ) → HoldsName p at len → HoldsName q at len
+
+-- the part p with one name more
+pub record AddsName (strings : List ℕ) (p q : NamesPart) (at len : ℕ) : Type 0 where
+  pub part : IsNamesPart strings q
+  pub larger : IsLarger p q
+  pub holds : HoldsName q at len
+  pub has : HasName strings at len
+  pub within : (start : ℕ) → IsPartIn start p → IsNear start at len → IsPartIn start q
+
+-- likewise with the name of a type and those of some of its items
+pub record AddsNames (strings : List ℕ) (p q : NamesPart) (r : TypeRow) (own : List ItemRow) : Type 0 where
+  pub part : IsNamesPart strings q
+  pub larger : IsLarger p q
+  pub name : HoldsName q r.name r.name_len
+  pub names : All (λ i. HoldsName q i.name i.name_len) own
+  pub has_name : HasName strings r.name r.name_len
+  pub has_names : All (λ i. HasName strings i.name i.name_len) own
+  pub within : (start : ℕ) → IsPartIn start p → IsNear start r.name r.name_len → All (λ i. IsNear start i.name i.name_len) own → IsPartIn start q
+
+-- likewise with the names of one type more
+pub record AddsType (strings : List ℕ) (items : List ItemRow) (p q : NamesPart) (r : TypeRow) : Type 0 where
+  pub part : IsNamesPart strings q
+  pub larger : IsLarger p q
+  pub holds : HoldsNames q items r
+  pub whole : IsWhole strings items r
+  pub within : (start : ℕ) → IsPartIn start p → AreNear items start r → IsPartIn start q
+
+-- the part has the names of some types, whose records have this length
+pub record AddsTypes (strings : List ℕ) (items : List ItemRow) (p : NamesPart) (len : ℕ) (types : List TypeRow) : Type 0 where
+  pub part : IsNamesPart strings p
+  pub holds : All (HoldsNames p items) types
+  pub whole : All (IsWhole strings items) types
+  pub within : (start : ℕ) → All (AreNear items start) types → IsPartIn start p
+  pub size : len ≡ sum_by row_size types
+  pub fits : len ≤ TYPES_LIMIT
+
+-- what each cause says of a name that isn't added
+abbrev pub NameRefusal : List ℕ → NamesPart → ℕ → ℕ → BtfCause → Type 0
+NameRefusal strings p at len NameRange = ¬ HasName strings at len
+NameRefusal strings p at len StringLength = (start : ℕ) → IsPartIn start p → ¬ IsNear start at len
+NameRefusal strings p at len _ = ⊥
+
+-- likewise of a type
+abbrev pub TypeRefusal : List ℕ → List ItemRow → NamesPart → TypeRow → BtfCause → Type 0
+TypeRefusal strings items p r KindNumber = IsFalse (is_kind r.kind)
+TypeRefusal strings items p r TailCut = (0 < item_words r.kind) × (length (own_rows items r) ≢ r.items)
+TypeRefusal strings items p r NameRange = ¬ HasNames strings items r
+TypeRefusal strings items p r StringLength = (start : ℕ) → IsPartIn start p → ¬ AreNear items start r
+TypeRefusal strings items p r _ = ⊥
+
+-- ---- comparison
+
+-- the record says this head of a type with so many items
+pub record TellsHead (strings : List ℕ) (row : TypeRow) (count : ℕ) (head : TypeHead) : Type 0 where
+  pub form : row ≡ type_row row.name row.first count head
+  pub named : IsNamed strings row.name (head_name head)
+
+-- the records don't say these types
+pub record IsUntold (strings : List ℕ) (types : List TypeRow) (items : List ItemRow) (v : List TypeRecord) (index : ℕ) : Type 0 where
+  pub at : IsOtherAt strings types items v index
+  pub none : ¬ AllZip (TellsType strings items) types v
