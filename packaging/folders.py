@@ -105,14 +105,20 @@ def stage_go(folders: dict[str, pathlib.Path], source: pathlib.Path, documents: 
     add_go_examples(root, source)
     calls = root / "internal" / "capi"
     shutil.copy(source / "capi" / "bpfcanon.h", calls)
-    lines = []
+    header, libraries = [], []
     for name, folder in folders.items():
-        lines.append(f"// #cgo linux,{name},!bpfcanon_system CFLAGS: -I${{SRCDIR}}")
-        lines.append(f"// #cgo linux,{name},!bpfcanon_system LDFLAGS: ${{SRCDIR}}/libbpfcanon_linux_{name}.a")
+        header.append(f"// #cgo linux,{name},!bpfcanon_system CFLAGS: -I${{SRCDIR}}\n")
+        libraries.append(f"// #cgo linux,{name},!bpfcanon_system LDFLAGS: ${{SRCDIR}}/libbpfcanon_linux_{name}.a\n")
         shutil.copy(folder / "lib" / "libbpfcanon.a", calls / f"libbpfcanon_linux_{name}.a")
-    lines.append(f"// #cgo bpfcanon_system !linux {','.join(f'!{name}' for name in folders)} pkg-config: bpfcanon")
-    head, named, rest = (calls / "capi.go").read_text().partition("// #cgo pkg-config: bpfcanon\n")
-    if not named:
-        raise Refused("bindings/go/internal/capi/capi.go doesn't name pkg-config")
-    (calls / "capi.go").write_text(head + "\n".join(lines) + "\n" + rest)
+    system = f"// #cgo bpfcanon_system !linux {','.join(f'!{name}' for name in folders)} pkg-config: bpfcanon\n"
+    replace_pkg_config(calls / "capi.go", "".join([*header, *libraries, system]))
+    replace_pkg_config(root / "doc.go", "".join([*header, system]).replace("${SRCDIR}", "${SRCDIR}/internal/capi"))
     return root
+
+
+def replace_pkg_config(file: pathlib.Path, lines: str) -> None:
+    """Put lines for cgo in place of the one that names pkg-config."""
+    head, named, rest = file.read_text().partition("// #cgo pkg-config: bpfcanon\n")
+    if not named:
+        raise Refused(f"{file.name} of the Go package doesn't name pkg-config")
+    file.write_text(head + lines + rest)

@@ -36,21 +36,21 @@ func appendingCalls(t *testing.T) []appending {
 	types, shortText := floats(binary.BigEndian, 8, "f")
 	canonical, _ := floats(binary.LittleEndian, 8, "f")
 	named, longText := floats(binary.LittleEndian, 10, strings.Repeat("x", 2000))
-	show := bpfcanon.AppendBTFShow
+	show := bpfcanon.AppendShowBTF
 	return []appending{
-		{"BTFCanon", types, canonical, func(dst, input []byte) ([]byte, error) {
-			return bpfcanon.AppendBTFCanon(dst, bpfcanon.Little, input)
+		{"CanonBTF", types, canonical, func(dst, input []byte) ([]byte, error) {
+			return bpfcanon.AppendCanonBTF(dst, bpfcanon.Little, input)
 		}},
-		{"BTFShow", types, shortText, show},
-		{"BTFShow of shared names", named, longText, show},
-		{"InsnCanon", program, load(t, "packet_filter.little.bin"), func(dst, input []byte) ([]byte, error) {
-			return bpfcanon.AppendInsnCanon(dst, bpfcanon.Big, bpfcanon.Little, input)
+		{"ShowBTF", types, shortText, show},
+		{"ShowBTF of shared names", named, longText, show},
+		{"CanonInsns", program, load(t, "packet_filter.little.bin"), func(dst, input []byte) ([]byte, error) {
+			return bpfcanon.AppendCanonInsns(dst, bpfcanon.Big, bpfcanon.Little, input)
 		}},
-		{"InsnShow", exits, bytes.Repeat([]byte("exit\n"), 40), func(dst, input []byte) ([]byte, error) {
-			return bpfcanon.AppendInsnShow(dst, bpfcanon.Little, input)
+		{"ShowInsns", exits, bytes.Repeat([]byte("exit\n"), 40), func(dst, input []byte) ([]byte, error) {
+			return bpfcanon.AppendShowInsns(dst, bpfcanon.Little, input)
 		}},
-		{"InsnRead", bytes.Repeat([]byte("exit\n"), 40), exits, func(dst, input []byte) ([]byte, error) {
-			return bpfcanon.AppendInsnRead(dst, bpfcanon.Little, input)
+		{"ReadInsns", bytes.Repeat([]byte("exit\n"), 40), exits, func(dst, input []byte) ([]byte, error) {
+			return bpfcanon.AppendReadInsns(dst, bpfcanon.Little, input)
 		}},
 	}
 }

@@ -70,15 +70,15 @@ func TestAnOrderThatIsNoneIsRefused(t *testing.T) {
 	const none = bpfcanon.Order(2)
 	exit := unhex(t, "95 00 0000 00000000")
 	for name, call := range map[string]func() error{
-		"BTFCanon":        func() error { _, err := bpfcanon.BTFCanon(none, btf(binary.LittleEndian, nil, "\x00")); return err },
-		"EncodeBTF":       func() error { _, err := bpfcanon.EncodeBTF(none, nil); return err },
-		"InsnCanon":       func() error { _, err := bpfcanon.InsnCanon(none, bpfcanon.Little, exit); return err },
-		"InsnCanon to":    func() error { _, err := bpfcanon.InsnCanon(bpfcanon.Little, none, exit); return err },
-		"InsnShow":        func() error { _, err := bpfcanon.InsnShow(none, exit); return err },
-		"InsnRead":        func() error { _, err := bpfcanon.InsnRead(none, []byte("exit")); return err },
-		"InsnGroups":      func() error { _, err := bpfcanon.InsnGroups(none, exit); return err },
-		"InsnSame":        func() error { _, err := bpfcanon.InsnSame(none, exit, bpfcanon.Little, exit); return err },
-		"InsnSame second": func() error { _, err := bpfcanon.InsnSame(bpfcanon.Little, exit, none, exit); return err },
+		"CanonBTF":         func() error { _, err := bpfcanon.CanonBTF(none, btf(binary.LittleEndian, nil, "\x00")); return err },
+		"EncodeBTF":        func() error { _, err := bpfcanon.EncodeBTF(none, nil); return err },
+		"CanonInsns":       func() error { _, err := bpfcanon.CanonInsns(none, bpfcanon.Little, exit); return err },
+		"CanonInsns to":    func() error { _, err := bpfcanon.CanonInsns(bpfcanon.Little, none, exit); return err },
+		"ShowInsns":        func() error { _, err := bpfcanon.ShowInsns(none, exit); return err },
+		"ReadInsns":        func() error { _, err := bpfcanon.ReadInsns(none, []byte("exit")); return err },
+		"GroupsOf":         func() error { _, err := bpfcanon.GroupsOf(none, exit); return err },
+		"SameInsns":        func() error { _, err := bpfcanon.SameInsns(none, exit, bpfcanon.Little, exit); return err },
+		"SameInsns second": func() error { _, err := bpfcanon.SameInsns(bpfcanon.Little, exit, none, exit); return err },
 		"InsnWriter": func() error {
 			_, err := bpfcanon.NewInsnWriter(new(bytes.Buffer), bpfcanon.Little, none).Write(exit)
 			return err

@@ -12,13 +12,13 @@ import (
 func TestCompiledTypesHaveOneForm(t *testing.T) {
 	little, big := load(t, "flow_table.little.btf"), load(t, "flow_table.big.btf")
 	for _, to := range orders {
-		first, err := bpfcanon.BTFCanon(to, little)
-		second, other := bpfcanon.BTFCanon(to, big)
+		first, err := bpfcanon.CanonBTF(to, little)
+		second, other := bpfcanon.CanonBTF(to, big)
 		if err != nil || other != nil || len(first) == 0 || !bytes.Equal(first, second) {
 			t.Errorf("to %v: %x, %v and %x, %v", to, first, err, second, other)
 		}
 	}
-	if same, err := bpfcanon.BTFSame(little, big); !same || err != nil {
+	if same, err := bpfcanon.SameBTF(little, big); !same || err != nil {
 		t.Errorf("compared: %v, %v", same, err)
 	}
 }
@@ -32,13 +32,13 @@ func TestListingLongerThanTheFirstBuffer(t *testing.T) {
 		words = append(words, 1, 0, 0)
 		text.WriteString("  member \"" + string(name) + "\" type=0 offset=0 width=0\n")
 	}
-	got, err := bpfcanon.BTFShow(btf(binary.LittleEndian, words, "\x00"+string(name)+"\x00"))
+	got, err := bpfcanon.ShowBTF(btf(binary.LittleEndian, words, "\x00"+string(name)+"\x00"))
 	wantBytes(t, "text", got, err, text.Bytes())
 }
 
 func TestGoroutinesCallAtTheSameTime(t *testing.T) {
 	types, program := load(t, "flow_table.big.btf"), load(t, "hash_words.big.bin")
-	wantTypes, err := bpfcanon.BTFCanon(bpfcanon.Little, load(t, "flow_table.little.btf"))
+	wantTypes, err := bpfcanon.CanonBTF(bpfcanon.Little, load(t, "flow_table.little.btf"))
 	if err != nil {
 		t.Fatal(err)
 	}
@@ -49,9 +49,9 @@ func TestGoroutinesCallAtTheSameTime(t *testing.T) {
 		go func() {
 			defer running.Done()
 			for k := 0; k < 200; k++ {
-				got, err := bpfcanon.BTFCanon(bpfcanon.Little, types)
+				got, err := bpfcanon.CanonBTF(bpfcanon.Little, types)
 				wantBytes(t, "types", got, err, wantTypes)
-				got, err = bpfcanon.InsnCanon(bpfcanon.Big, bpfcanon.Little, program)
+				got, err = bpfcanon.CanonInsns(bpfcanon.Big, bpfcanon.Little, program)
 				wantBytes(t, "instructions", got, err, wantProgram)
 			}
 		}()

@@ -19,13 +19,13 @@ func TestCausesAreThoseOfTheHeader(t *testing.T) {
 		cause       func(number int) bpfcanon.Cause
 		names       [2]string
 	}{
-		{bpfcanon.InsnTruncated, bpfcanon.InsnNextImm, 1, capi.InsnCauses,
+		{bpfcanon.ErrInsnTruncated, bpfcanon.ErrInsnNextImm, 1, capi.InsnCauses,
 			func(n int) bpfcanon.Cause { return bpfcanon.InsnCause(n) }, [2]string{"Truncated", "NextImm"}},
-		{bpfcanon.LineChar, bpfcanon.LineRange, 1, capi.LineCauses,
+		{bpfcanon.ErrLineChar, bpfcanon.ErrLineRange, 1, capi.LineCauses,
 			func(n int) bpfcanon.Cause { return bpfcanon.LineCause(n) }, [2]string{"Char", "Range"}},
-		{bpfcanon.BTFShortHeader, bpfcanon.BTFComponent, 1, capi.BTFCauses,
+		{bpfcanon.ErrBTFShortHeader, bpfcanon.ErrBTFComponent, 1, capi.BTFCauses,
 			func(n int) bpfcanon.Cause { return bpfcanon.BTFCause(n) }, [2]string{"ShortHeader", "Component"}},
-		{bpfcanon.ObjectFileTooLarge, bpfcanon.ObjectResultTooLarge, 101, capi.ObjectCauses,
+		{bpfcanon.ErrObjectFileTooLarge, bpfcanon.ErrObjectResultTooLarge, 101, capi.ObjectCauses,
 			func(n int) bpfcanon.Cause { return bpfcanon.ObjectCause(n) }, [2]string{"FileTooLarge", "ResultTooLarge"}},
 	} {
 		if kind.first != kind.cause(kind.start) || kind.last != kind.cause(kind.end) {
@@ -47,14 +47,14 @@ func TestCausesAreThoseOfTheHeader(t *testing.T) {
 
 func TestErrorsNameThePlaceAndTheCause(t *testing.T) {
 	for want, fault := range map[string]bpfcanon.FaultError{
-		"bpfcanon: byte 9: Opcode: no instruction has this opcode":               {Cause: bpfcanon.InsnOpcode, Pos: 9},
-		"bpfcanon: line 2: Word: no instruction has this mnemonic":               {Cause: bpfcanon.LineWord, Line: 2},
-		"bpfcanon: second input: byte 2: Version: the version is not 1":          {Cause: bpfcanon.BTFVersion, Pos: 2, Second: true},
-		"bpfcanon: byte 0: Truncated: the input ends inside an instruction":      {Cause: bpfcanon.InsnTruncated},
-		"bpfcanon: byte 40: Vlen: vlen is not 0 on a kind without items":         {Cause: bpfcanon.BTFVlen, Pos: 40},
-		"bpfcanon: line 1: Range: a number is out of the range of its field":     {Cause: bpfcanon.LineRange, Line: 1},
-		"bpfcanon: second input: byte 8: Opcode: no instruction has this opcode": {Cause: bpfcanon.InsnOpcode, Pos: 8, Second: true},
-		"bpfcanon: byte 24: KindNumber: the kind is 0 or over 19":                {Cause: bpfcanon.BTFKindNumber, Pos: 24},
+		"bpfcanon: byte 9: Opcode: no instruction has this opcode":               {Cause: bpfcanon.ErrInsnOpcode, Offset: 9},
+		"bpfcanon: line 2: Word: no instruction has this mnemonic":               {Cause: bpfcanon.ErrLineWord, Line: 2},
+		"bpfcanon: second input: byte 2: Version: the version is not 1":          {Cause: bpfcanon.ErrBTFVersion, Offset: 2, Second: true},
+		"bpfcanon: byte 0: Truncated: the input ends inside an instruction":      {Cause: bpfcanon.ErrInsnTruncated},
+		"bpfcanon: byte 40: Vlen: vlen is not 0 on a kind without items":         {Cause: bpfcanon.ErrBTFVlen, Offset: 40},
+		"bpfcanon: line 1: Range: a number is out of the range of its field":     {Cause: bpfcanon.ErrLineRange, Line: 1},
+		"bpfcanon: second input: byte 8: Opcode: no instruction has this opcode": {Cause: bpfcanon.ErrInsnOpcode, Offset: 8, Second: true},
+		"bpfcanon: byte 24: KindNumber: the kind is 0 or over 19":                {Cause: bpfcanon.ErrBTFKindNumber, Offset: 24},
 	} {
 		err := error(&fault)
 		if err.Error() != want {
@@ -62,7 +62,7 @@ func TestErrorsNameThePlaceAndTheCause(t *testing.T) {
 		}
 	}
 	// Causes of different kinds are different, also with the same number.
-	if err := error(&bpfcanon.FaultError{Cause: bpfcanon.InsnOpcode}); errors.Is(err, bpfcanon.BTFMagic) || errors.Is(err, bpfcanon.LineWord) {
+	if err := error(&bpfcanon.FaultError{Cause: bpfcanon.ErrInsnOpcode}); errors.Is(err, bpfcanon.ErrBTFMagic) || errors.Is(err, bpfcanon.ErrLineWord) {
 		t.Error("a cause of instructions is one of BTF or of listings")
 	}
 }

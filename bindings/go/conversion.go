@@ -1,6 +1,7 @@
 package bpfcanon
 
-import "bpfcanon/internal/capi"
+// #include <bpfcanon.h>
+import "C"
 
 // A MovsxForm is the widths of a sign-extending move: that of the destination, and the number of low
 // bits of the source that are moved (RFC 9669 section 4.1).
@@ -56,14 +57,14 @@ func (f MovsxForm) String() string { return nameOr(f.widths().name, "MovsxForm",
 type SwapKind uint8
 
 const (
-	SwapLe    SwapKind = capi.SwapLe    // between the host's byte order and little-endian
-	SwapBe    SwapKind = capi.SwapBe    // between the host's byte order and big-endian
-	SwapBytes SwapKind = capi.SwapBytes // unconditionally: reverses the bytes
+	SwapLe    SwapKind = C.BPFCANON_SWAP_LE    // between the host's byte order and little-endian
+	SwapBe    SwapKind = C.BPFCANON_SWAP_BE    // between the host's byte order and big-endian
+	SwapBytes SwapKind = C.BPFCANON_SWAP_BYTES // unconditionally: reverses the bytes
 )
 
-var swapNames = map[SwapKind]string{SwapLe: "le", SwapBe: "be", SwapBytes: "swap"}
+var swapNames = map[SwapKind]string{SwapLe: "le", SwapBe: "be", SwapBytes: "bytes"}
 
-// String returns the name of the kind, "le", "be" or "swap".
+// String returns the name of the kind, "le", "be" or "bytes".
 func (k SwapKind) String() string { return nameOr(swapNames[k], "SwapKind", uint32(k)) }
 
 // A SwapBits is the number of bits of a byte swap, 16, 32 or 64 (RFC 9669 section 4.2).

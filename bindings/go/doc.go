@@ -9,7 +9,7 @@
 //
 // DecodeInsns and DecodeBTF return the instructions and types themselves, as values of Go, and refuse
 // the same inputs; EncodeInsns and EncodeBTF are the way back. A type is made when it is asked for,
-// and its names are substrings of one copy of the input. Types can form a circle: a program that
+// and its names are substrings of one copy of the input. Types can form a cycle: a program that
 // follows the targets of types by itself, and not by Resolve, needs a limit.
 //
 // The work is done by the C library libbpfcanon, whose core is proved to meet its contracts. The few
@@ -17,6 +17,10 @@
 // Inputs are not copied, except by DecodeBTF, and no call keeps a reference to its input. Calls may
 // run at the same time, but no goroutine may write to an input during a call.
 package bpfcanon
+
+// #cgo pkg-config: bpfcanon
+// #include <bpfcanon.h>
+import "C"
 
 import (
 	"fmt"
@@ -28,8 +32,8 @@ import (
 type Order uint32
 
 const (
-	Little Order = Order(capi.Little) // little-endian, the order of canonical bytes
-	Big    Order = Order(capi.Big)    // big-endian
+	Little Order = C.BPFCANON_ORDER_LITTLE // little-endian, the order of canonical bytes
+	Big    Order = C.BPFCANON_ORDER_BIG    // big-endian
 )
 
 // String returns "little" or "big".
@@ -45,7 +49,7 @@ func (o Order) String() string {
 
 // BTFMax is the length in bytes of the longest BTF that can be valid: 4,096 bytes of header, 32 MiB
 // of types and 16 MiB of strings. Instructions and listings have no limit.
-const BTFMax = capi.BTFMax
+const BTFMax = C.BPFCANON_BTF_MAX
 
 // LibraryVersion returns the version of the C library, for example "0.1.0".
 func LibraryVersion() string {

@@ -6,9 +6,9 @@ import (
 	"bpfcanon/internal/capi"
 )
 
-// An EncodeError is returned for an Insn that has no encoding, for example because a register is
+// An EncodeInsnError is returned for an Insn that has no encoding, for example because a register is
 // over 10, an Operand is nil, or a Size isn't one that its struct allows.
-type EncodeError struct {
+type EncodeInsnError struct {
 	// Index is the index of the first such Insn.
 	Index int
 	// Insn is that Insn.
@@ -16,14 +16,14 @@ type EncodeError struct {
 }
 
 // Error returns the index and the value of the Insn.
-func (e *EncodeError) Error() string {
+func (e *EncodeInsnError) Error() string {
 	return fmt.Sprintf("bpfcanon: instruction %d has no encoding: %#v", e.Index, e.Insn)
 }
 
 // EncodeInsns returns the encoding of instructions in the byte order `to`. With to == Little these
 // are their canonical bytes.
 //
-// Errors: an *EncodeError, ErrOrder.
+// Errors: an *EncodeInsnError, ErrOrder.
 func EncodeInsns(to Order, insns []Insn) ([]byte, error) {
 	records, length := make([]capi.Insn, len(insns)), 0
 	for i, insn := range insns {
@@ -33,7 +33,7 @@ func EncodeInsns(to Order, insns []Insn) ([]byte, error) {
 	out := make([]byte, length)
 	got := capi.InsnEncode(capi.Order(to), records, out)
 	if got.Status == capi.Fault {
-		return nil, &EncodeError{int(got.Pos), insns[got.Pos]}
+		return nil, &EncodeInsnError{int(got.Offset), insns[got.Offset]}
 	}
 	if err := errorOf(got, insnCause); err != nil {
 		return nil, err
@@ -43,7 +43,7 @@ func EncodeInsns(to Order, insns []Insn) ([]byte, error) {
 
 // lengthOf returns the length in bytes of the encoding that a record says.
 func lengthOf(r *capi.Insn) int {
-	if r.Form == capi.FormWide {
+	if Form(r.Form) == FormWide {
 		return 2 * slotSize
 	}
 	return slotSize

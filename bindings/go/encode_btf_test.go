@@ -4,6 +4,7 @@ import (
 	"encoding/binary"
 	"errors"
 	"fmt"
+	"reflect"
 	"strings"
 	"testing"
 
@@ -18,20 +19,20 @@ var writtenTypes = []struct {
 	value bpfcanon.Type
 	words []uint32
 }{
-	{bpfcanon.Int{Name: "a", Size: 4, Encoding: bpfcanon.EncodingBool, Offset: 2, Bits: 7}, []uint32{1, info(1, 0, 0), 4, 0x04020007}},
+	{bpfcanon.Int{Name: "a", Size: 4, Encoding: bpfcanon.EncodingBool, BitOffset: 2, Bits: 7}, []uint32{1, info(1, 0, 0), 4, 0x04020007}},
 	{bpfcanon.Struct{
-		Name: "bc", Size: 8, Members: bpfcanon.NewMembers(
-			bpfcanon.Member{Name: "a", Target: 4, BitOffset: 5, Width: 3}, bpfcanon.Member{Target: 5, BitOffset: 32}),
+		Name: "bc", Size: 8, Members: []bpfcanon.Member{
+			{Name: "a", Target: 4, BitOffset: 5, Width: 3}, {Target: 5, BitOffset: 32}},
 	}, []uint32{3, info(4, 2, 1), 8, 1, 4, 0x03000005, 0, 5, 32}},
-	{bpfcanon.FuncProto{Target: 1, Params: bpfcanon.NewParams(bpfcanon.Param{Name: "bc", Target: 1}, bpfcanon.Param{})},
+	{bpfcanon.FuncProto{Target: 1, Params: []bpfcanon.Param{{Name: "bc", Target: 1}, {}}},
 		[]uint32{0, info(13, 2, 0), 1, 3, 1, 0, 0}},
-	{bpfcanon.Enum{Name: "", Signed: true, Size: 4, Values: bpfcanon.NewValues(bpfcanon.EnumValue{Name: "a", Value: -2})},
+	{bpfcanon.Enum{Name: "", Signed: true, Size: 4, Values: []bpfcanon.EnumValue{{Name: "a", Value: 1<<64 - 2}}},
 		[]uint32{0, info(6, 1, 1), 4, 1, 0xfffffffe}},
-	{bpfcanon.Enum{Name: "a", Size: 4, Values: bpfcanon.NewValues(bpfcanon.EnumValue{Name: "bc", Value: 0xfffffffe})},
+	{bpfcanon.Enum{Name: "a", Size: 4, Values: []bpfcanon.EnumValue{{Name: "bc", Value: 0xfffffffe}}},
 		[]uint32{1, info(6, 1, 0), 4, 3, 0xfffffffe}},
 	{bpfcanon.Ptr{Target: 24}, []uint32{0, info(2, 0, 0), 24}},
 	{bpfcanon.Array{Target: 1, Index: 4, Count: 9}, []uint32{0, info(3, 0, 0), 0, 1, 4, 9}},
-	{bpfcanon.Union{Size: 0x20000000, Members: bpfcanon.NewMembers(bpfcanon.Member{Name: "a", Target: 1, BitOffset: 0xff000000})},
+	{bpfcanon.Union{Size: 0x20000000, Members: []bpfcanon.Member{{Name: "a", Target: 1, BitOffset: 0xff000000}}},
 		[]uint32{0, info(5, 1, 0), 0x20000000, 1, 1, 0xff000000}},
 	{bpfcanon.Fwd{Name: "bc", IsUnion: true}, []uint32{3, info(7, 0, 1), 0}},
 	{bpfcanon.Fwd{Name: "bc"}, []uint32{3, info(7, 0, 0), 0}},
@@ -41,14 +42,14 @@ var writtenTypes = []struct {
 	{bpfcanon.Restrict{Target: 6}, []uint32{0, info(11, 0, 0), 6}},
 	{bpfcanon.Func{Name: "a", Linkage: bpfcanon.LinkageExtern, Target: 3}, []uint32{1, info(12, 2, 0), 3}},
 	{bpfcanon.Var{Name: "bc", Target: 1, Linkage: bpfcanon.LinkageGlobal}, []uint32{3, info(14, 0, 0), 1, 1}},
-	{bpfcanon.Datasec{Name: "a", Size: 9, Entries: bpfcanon.NewEntries(bpfcanon.Entry{Target: 16, Offset: 4, Size: 5})},
+	{bpfcanon.Datasec{Name: "a", Size: 9, Entries: []bpfcanon.Entry{{Target: 16, Offset: 4, Size: 5}}},
 		[]uint32{1, info(15, 1, 0), 9, 16, 4, 5}},
 	{bpfcanon.Float{Name: "a", Size: 8}, []uint32{1, info(16, 0, 0), 8}},
 	{bpfcanon.DeclTag{Name: "bc", Target: 2, Component: 1}, []uint32{3, info(17, 0, 0), 2, 1}},
 	{bpfcanon.DeclTag{Name: "a", Flag: true, Target: 15, Component: bpfcanon.WholeType}, []uint32{1, info(17, 0, 1), 15, 0xffffffff}},
 	{bpfcanon.TypeTag{Name: "a", Target: 1}, []uint32{1, info(18, 0, 0), 1}},
 	{bpfcanon.TypeTag{Name: "a", Flag: true, Target: 1}, []uint32{1, info(18, 0, 1), 1}},
-	{bpfcanon.Enum64{Name: "a", Signed: true, Size: 8, Values: bpfcanon.NewValues64(bpfcanon.Value64{Name: "bc", Value: 1<<63 + 2})},
+	{bpfcanon.Enum64{Name: "a", Signed: true, Size: 8, Values: []bpfcanon.EnumValue{{Name: "bc", Value: 1<<63 + 2}}},
 		[]uint32{1, info(19, 1, 1), 8, 3, 2, 0x80000000}},
 	{bpfcanon.Struct{}, []uint32{0, info(4, 0, 0), 0}},
 }
@@ -60,7 +61,7 @@ func TestTypesAreEncoded(t *testing.T) {
 		types, words = append(types, row.value), append(words, row.words...)
 	}
 	for _, to := range orders {
-		want, err := bpfcanon.BTFCanon(to, btf(binary.LittleEndian, words, writtenStrings))
+		want, err := bpfcanon.CanonBTF(to, btf(binary.LittleEndian, words, writtenStrings))
 		if err != nil {
 			t.Fatal(err)
 		}
@@ -79,7 +80,7 @@ func TestNoTypesAreEncoded(t *testing.T) {
 func TestCompiledTypesAreEncoded(t *testing.T) {
 	for _, name := range []string{"flow_table.little.btf", "flow_table.big.btf"} {
 		for _, to := range orders {
-			want, err := bpfcanon.BTFCanon(to, load(t, name))
+			want, err := bpfcanon.CanonBTF(to, load(t, name))
 			if err != nil {
 				t.Fatal(err)
 			}
@@ -89,36 +90,12 @@ func TestCompiledTypesAreEncoded(t *testing.T) {
 	}
 }
 
-// Items have the fields that they were made with, also those that no BTF has.
-func TestItemsThatWereMade(t *testing.T) {
-	member := bpfcanon.Member{Name: "a\x00", Target: 3, BitOffset: 1<<32 - 1, Width: 255}
-	if got := bpfcanon.NewMembers(bpfcanon.Member{Name: "b"}, member); got.Len() != 2 || got.At(0).Name != "b" || got.At(1) != member {
-		t.Errorf("%v, %v", got.At(0), got.At(1))
-	}
-	value := bpfcanon.EnumValue{Name: "a", Value: -1 << 63}
-	if got := bpfcanon.NewValues(value); got.Len() != 1 || got.At(0) != value {
-		t.Errorf("%v", got.At(0))
-	}
-	value64 := bpfcanon.Value64{Name: "a", Value: 1<<64 - 1}
-	if got := bpfcanon.NewValues64(value64); got.Len() != 1 || got.At(0) != value64 {
-		t.Errorf("%v", got.At(0))
-	}
-	param := bpfcanon.Param{Name: "a", Target: 1<<32 - 1}
-	if got := bpfcanon.NewParams(param, param); got.Len() != 2 || got.At(1) != param {
-		t.Errorf("%v", got.At(1))
-	}
-	entry := bpfcanon.Entry{Target: 1, Offset: 2, Size: 3}
-	if got := bpfcanon.NewEntries(entry); got.Len() != 1 || got.At(0) != entry {
-		t.Errorf("%v", got.At(0))
-	}
-}
-
 func structOf(members ...bpfcanon.Member) bpfcanon.Type {
-	return bpfcanon.Struct{Size: 1 << 30, Members: bpfcanon.NewMembers(members...)}
+	return bpfcanon.Struct{Size: 1 << 30, Members: members}
 }
 
-func enumOf(signed bool, value int64) bpfcanon.Type {
-	return bpfcanon.Enum{Size: 4, Signed: signed, Values: bpfcanon.NewValues(bpfcanon.EnumValue{Name: "a", Value: value})}
+func enumOf(signed bool, value uint64) bpfcanon.Type {
+	return bpfcanon.Enum{Size: 4, Signed: signed, Values: []bpfcanon.EnumValue{{Name: "a", Value: value}}}
 }
 
 // Values that can't be encoded, with the cause. The other types are structs without members.
@@ -133,34 +110,34 @@ var refusedTypes = []struct {
 	{bpfcanon.Fwd{Name: "a\x00"}, 0},
 	{structOf(bpfcanon.Member{Name: "\x00"}), 0},
 	{structOf(bpfcanon.Member{Width: 1}, bpfcanon.Member{Target: 1, BitOffset: 1 << 24}), 0},
-	{bpfcanon.Struct{Members: bpfcanon.NewMembers(make([]bpfcanon.Member, 1<<16)...)}, 0},
-	{enumOf(false, -1), 0},
+	{bpfcanon.Struct{Members: make([]bpfcanon.Member, 1<<16)}, 0},
+	{enumOf(false, 1<<64-1), 0},
 	{enumOf(false, 1<<32), 0},
 	{enumOf(true, 1<<31), 0},
-	{enumOf(true, -1<<31-1), 0},
+	{enumOf(true, 1<<64-1<<31-1), 0},
 	{bpfcanon.DeclTag{Name: "a", Target: 1, Component: -2}, 0},
 	{bpfcanon.DeclTag{Name: "a", Target: 1, Component: 1<<32 - 1}, 0},
-	{bpfcanon.Ptr{Target: 9}, bpfcanon.BTFReference},
-	{bpfcanon.Array{Target: 1, Index: 1<<32 - 1}, bpfcanon.BTFReference},
-	{structOf(bpfcanon.Member{}, bpfcanon.Member{Target: 9}), bpfcanon.BTFReference},
-	{bpfcanon.Typedef{Name: "\xff"}, bpfcanon.BTFNameUTF8},
-	{structOf(bpfcanon.Member{}, bpfcanon.Member{Name: "\xed\xa0\x80"}), bpfcanon.BTFNameUTF8},
-	{bpfcanon.Typedef{}, bpfcanon.BTFNameMissing},
-	{bpfcanon.Float{Name: "a", Size: 3}, bpfcanon.BTFSize},
-	{bpfcanon.Int{Name: "a", Size: 4, Bits: 8, Encoding: 3}, bpfcanon.BTFIntWord},
-	{bpfcanon.Int{Name: "a", Size: 4, Bits: 33}, bpfcanon.BTFIntWord},
-	{bpfcanon.Func{Name: "a", Target: 1}, bpfcanon.BTFTargetKind},
-	{bpfcanon.Var{Name: "a", Target: 1, Linkage: 3}, bpfcanon.BTFLinkage},
-	{bpfcanon.DeclTag{Name: "a", Target: 1, Component: 1 << 16}, bpfcanon.BTFComponent},
-	{bpfcanon.Struct{Size: 1, Members: bpfcanon.NewMembers(bpfcanon.Member{BitOffset: 1, Target: 1}, bpfcanon.Member{BitOffset: 9, Target: 1})}, bpfcanon.BTFMemberPlace},
+	{bpfcanon.Ptr{Target: 9}, bpfcanon.ErrBTFReference},
+	{bpfcanon.Array{Target: 1, Index: 1<<32 - 1}, bpfcanon.ErrBTFReference},
+	{structOf(bpfcanon.Member{}, bpfcanon.Member{Target: 9}), bpfcanon.ErrBTFReference},
+	{bpfcanon.Typedef{Name: "\xff"}, bpfcanon.ErrBTFNameUTF8},
+	{structOf(bpfcanon.Member{}, bpfcanon.Member{Name: "\xed\xa0\x80"}), bpfcanon.ErrBTFNameUTF8},
+	{bpfcanon.Typedef{}, bpfcanon.ErrBTFNameMissing},
+	{bpfcanon.Float{Name: "a", Size: 3}, bpfcanon.ErrBTFSize},
+	{bpfcanon.Int{Name: "a", Size: 4, Bits: 8, Encoding: 3}, bpfcanon.ErrBTFIntWord},
+	{bpfcanon.Int{Name: "a", Size: 4, Bits: 33}, bpfcanon.ErrBTFIntWord},
+	{bpfcanon.Func{Name: "a", Target: 1}, bpfcanon.ErrBTFTargetKind},
+	{bpfcanon.Var{Name: "a", Target: 1, Linkage: 3}, bpfcanon.ErrBTFLinkage},
+	{bpfcanon.DeclTag{Name: "a", Target: 1, Component: 1 << 16}, bpfcanon.ErrBTFComponent},
+	{bpfcanon.Struct{Size: 1, Members: []bpfcanon.Member{{BitOffset: 1, Target: 1}, {BitOffset: 9, Target: 1}}}, bpfcanon.ErrBTFMemberPlace},
 }
 
 // Checks that these types are refused at an index, with a cause.
 func wantRefused(t *testing.T, types []bpfcanon.Type, index int, cause bpfcanon.BTFCause) {
 	t.Helper()
 	got, err := bpfcanon.EncodeBTF(bpfcanon.Little, types)
-	var refused *bpfcanon.EncodeTypeError
-	if !errors.As(err, &refused) || refused.Index != index || refused.Type != types[index] || refused.Cause != cause || got != nil {
+	var refused *bpfcanon.EncodeBTFError
+	if !errors.As(err, &refused) || refused.Index != index || !reflect.DeepEqual(refused.Type, types[index]) || refused.Cause != cause || got != nil {
 		t.Errorf("%v, want %d and %v", err, index, cause)
 	}
 	if (cause != 0) != errors.Is(err, cause) {
@@ -182,11 +159,12 @@ func TestTheTypeThatIsRefusedIsNamed(t *testing.T) {
 	}
 }
 
-// A type without an encoding is reported before an earlier one with a fault, and of two the first.
+// A type with a fault is reported before an earlier one that no BTF holds, and of two the first.
 func TestTheFirstTypeThatIsRefused(t *testing.T) {
 	fault, none := bpfcanon.Ptr{Target: 9}, bpfcanon.Void{}
-	wantRefused(t, []bpfcanon.Type{bpfcanon.Ptr{}, fault, bpfcanon.Typedef{}}, 1, bpfcanon.BTFReference)
-	wantRefused(t, []bpfcanon.Type{fault, none, none}, 1, 0)
+	wantRefused(t, []bpfcanon.Type{bpfcanon.Ptr{}, fault, bpfcanon.Typedef{}}, 1, bpfcanon.ErrBTFReference)
+	wantRefused(t, []bpfcanon.Type{none, fault, fault}, 1, bpfcanon.ErrBTFReference)
+	wantRefused(t, []bpfcanon.Type{bpfcanon.Ptr{}, none, none}, 1, 0)
 }
 
 func TestSectionsHaveALimit(t *testing.T) {
@@ -194,18 +172,18 @@ func TestSectionsHaveALimit(t *testing.T) {
 	for i := 0; i < 16; i++ {
 		types = append(types, bpfcanon.Fwd{Name: strings.Repeat(string(rune('a'+i)), 1<<20-1)})
 	}
-	wantRefused(t, append(types, bpfcanon.Fwd{Name: "last"}), 15, bpfcanon.BTFStringLength)
+	wantRefused(t, append(types, bpfcanon.Fwd{Name: "last"}), 15, bpfcanon.ErrBTFStringLength)
 	// The section begins with a NUL, so these names are as long as they may be.
 	types[15] = bpfcanon.Fwd{Name: strings.Repeat("z", 1<<20-2)}
 	if got, err := bpfcanon.EncodeBTF(bpfcanon.Little, types); err != nil || len(got) != 24+16*12+1<<24 {
 		t.Errorf("%d bytes, %v", len(got), err)
 	}
 	types = nil
-	most := bpfcanon.Struct{Members: bpfcanon.NewMembers(make([]bpfcanon.Member, 1<<16-1)...)}
+	most := bpfcanon.Struct{Members: make([]bpfcanon.Member, 1<<16-1)}
 	for i := 0; i < 43; i++ { // each of 786,432 bytes
 		types = append(types, most)
 	}
-	wantRefused(t, types, 42, bpfcanon.BTFTypeLength)
+	wantRefused(t, types, 42, bpfcanon.ErrBTFTypeLength)
 }
 
 func TestErrorsOfEncodingNameTheType(t *testing.T) {

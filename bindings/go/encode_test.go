@@ -13,14 +13,14 @@ var unencodable = []bpfcanon.Insn{
 	nil,
 	&bpfcanon.Exit{},
 	(*bpfcanon.Exit)(nil),
-	bpfcanon.Alu{},
-	bpfcanon.Alu{Width: bpfcanon.W64, Op: bpfcanon.AluAdd, Dst: 1},
-	bpfcanon.Alu{Width: bpfcanon.W64, Op: bpfcanon.AluAdd, Dst: 11, Arg: bpfcanon.Imm(0)},
-	bpfcanon.Alu{Width: bpfcanon.W64, Op: bpfcanon.AluAdd, Dst: 1, Arg: bpfcanon.Reg(11)},
-	bpfcanon.Alu{Width: bpfcanon.W64, Op: bpfcanon.AluAdd, Dst: 1, Arg: new(bpfcanon.Reg)},
-	bpfcanon.Alu{Width: bpfcanon.W64, Op: bpfcanon.AluAdd, Dst: 1, Arg: (*bpfcanon.Imm)(nil)},
-	bpfcanon.Alu{Width: bpfcanon.W64, Op: 8, Dst: 1, Arg: bpfcanon.Imm(0)}, // NEG, a form of its own
-	bpfcanon.Alu{Width: 16, Op: bpfcanon.AluAdd, Dst: 1, Arg: bpfcanon.Imm(0)},
+	bpfcanon.ALU{},
+	bpfcanon.ALU{Width: bpfcanon.W64, Op: bpfcanon.ALUAdd, Dst: 1},
+	bpfcanon.ALU{Width: bpfcanon.W64, Op: bpfcanon.ALUAdd, Dst: 11, Arg: bpfcanon.Imm(0)},
+	bpfcanon.ALU{Width: bpfcanon.W64, Op: bpfcanon.ALUAdd, Dst: 1, Arg: bpfcanon.Reg(11)},
+	bpfcanon.ALU{Width: bpfcanon.W64, Op: bpfcanon.ALUAdd, Dst: 1, Arg: new(bpfcanon.Reg)},
+	bpfcanon.ALU{Width: bpfcanon.W64, Op: bpfcanon.ALUAdd, Dst: 1, Arg: (*bpfcanon.Imm)(nil)},
+	bpfcanon.ALU{Width: bpfcanon.W64, Op: 8, Dst: 1, Arg: bpfcanon.Imm(0)}, // NEG, a form of its own
+	bpfcanon.ALU{Width: 16, Op: bpfcanon.ALUAdd, Dst: 1, Arg: bpfcanon.Imm(0)},
 	bpfcanon.Movsx{},
 	bpfcanon.Movsx{Form: 6, Dst: 1, Src: 2},
 	bpfcanon.Movsx{Form: bpfcanon.W64From32, Dst: 1, Src: 255},
@@ -35,7 +35,7 @@ var unencodable = []bpfcanon.Insn{
 	bpfcanon.StoreImm{Size: bpfcanon.SizeW, Dst: 11},
 	bpfcanon.StoreReg{Size: bpfcanon.SizeW, Dst: 1, Src: 11},
 	bpfcanon.Atomic{Width: bpfcanon.W64, Op: 2, Dst: 1, Src: 2},
-	bpfcanon.Atomic{Width: 8, Op: bpfcanon.Xchg, Dst: 1, Src: 2},
+	bpfcanon.Atomic{Width: 8, Op: bpfcanon.AtomicXchg, Dst: 1, Src: 2},
 	bpfcanon.Wide{Dst: 1},
 	bpfcanon.Wide{Dst: 11, What: bpfcanon.Number(1)},
 	bpfcanon.Wide{Dst: 1, What: (*bpfcanon.MapFD)(nil)},
@@ -48,7 +48,7 @@ func TestTheFirstThatHasNoEncodingIsReported(t *testing.T) {
 		for before := 0; before < 3; before++ {
 			given := append(append([]bpfcanon.Insn{}, values[:before]...), bad, bpfcanon.Exit{}, nil)
 			got, err := bpfcanon.EncodeInsns(bpfcanon.Little, given)
-			var fault *bpfcanon.EncodeError
+			var fault *bpfcanon.EncodeInsnError
 			if !errors.As(err, &fault) || fault.Index != before || fault.Insn != bad || got != nil {
 				t.Errorf("%#v after %d: %x, %v", bad, before, got, err)
 			}

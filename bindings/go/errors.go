@@ -7,8 +7,8 @@ import (
 	"bpfcanon/internal/capi"
 )
 
-// ErrMemory is returned if the library runs out of memory.
-var ErrMemory = errors.New("bpfcanon: out of memory")
+// ErrOutOfMemory is returned if the library runs out of memory.
+var ErrOutOfMemory = errors.New("bpfcanon: out of memory")
 
 // ErrOrder is returned if an Order is neither Little nor Big.
 var ErrOrder = errors.New("bpfcanon: no such byte order")
@@ -33,8 +33,8 @@ func (e *UnknownRecordError) Error() string {
 type FaultError struct {
 	// Cause is an InsnCause, a LineCause, a BTFCause or an ObjectCause.
 	Cause Cause
-	// Pos is the offset of the fault in bytes. It is 0 for a fault in a listing, which has a line.
-	Pos uint64
+	// Offset is the offset of the fault in bytes. It is 0 for a fault in a listing, which has a line.
+	Offset uint64
 	// Line is the line of a fault in a listing, counted from 1, and 0 for other faults.
 	Line uint64
 	// Second is set if the fault is in the second of two inputs and the first is valid.
@@ -43,7 +43,7 @@ type FaultError struct {
 
 // Error returns the offset or line of the fault, the name of the cause and its sentence.
 func (e *FaultError) Error() string {
-	input, position := "", fmt.Sprintf("byte %d", e.Pos)
+	input, position := "", fmt.Sprintf("byte %d", e.Offset)
 	if e.Second {
 		input = "second input: "
 	}
@@ -69,9 +69,9 @@ func errorOf(a capi.Answer, cause func(uint32) Cause) error {
 	case capi.Done, capi.Different:
 		return nil
 	case capi.Fault, capi.FaultSecond:
-		return &FaultError{Cause: cause(a.Cause), Pos: a.Pos, Line: a.Line, Second: a.Status == capi.FaultSecond}
-	case capi.Memory:
-		return ErrMemory
+		return &FaultError{Cause: cause(a.Cause), Offset: a.Offset, Line: a.Line, Second: a.Status == capi.FaultSecond}
+	case capi.OutOfMemory:
+		return ErrOutOfMemory
 	case capi.BadOrder:
 		return ErrOrder
 	}

@@ -10,7 +10,7 @@ import (
 // The statuses that a test can't bring about, and those without an error.
 func TestErrorsOfStatuses(t *testing.T) {
 	for status, want := range map[capi.Status]error{
-		capi.Done: nil, capi.Different: nil, capi.Memory: ErrMemory, capi.BadOrder: ErrOrder,
+		capi.Done: nil, capi.Different: nil, capi.OutOfMemory: ErrOutOfMemory, capi.BadOrder: ErrOrder,
 	} {
 		if got := errorOf(capi.Answer{Status: status}, insnCause); !errors.Is(got, want) {
 			t.Errorf("status %d: %v, want %v", status, got, want)

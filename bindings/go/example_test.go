@@ -11,9 +11,9 @@ import (
 )
 
 // mov r1, r2 of a big-endian target.
-func ExampleInsnCanon() {
+func ExampleCanonInsns() {
 	program := []byte{0xbf, 0x12, 0, 0, 0, 0, 0, 0}
-	canonical, err := bpfcanon.InsnCanon(bpfcanon.Big, bpfcanon.Little, program)
+	canonical, err := bpfcanon.CanonInsns(bpfcanon.Big, bpfcanon.Little, program)
 	if err != nil {
 		log.Fatal(err)
 	}
@@ -24,12 +24,12 @@ func ExampleInsnCanon() {
 // The fault of a program has an offset and a cause.
 func ExampleFaultError() {
 	program := []byte{0x95, 0, 0, 0, 0, 0, 0, 0, 0x04, 0x10, 0, 0, 5, 0, 0, 0}
-	_, err := bpfcanon.InsnCanon(bpfcanon.Little, bpfcanon.Little, program)
+	_, err := bpfcanon.CanonInsns(bpfcanon.Little, bpfcanon.Little, program)
 	var fault *bpfcanon.FaultError
 	if errors.As(err, &fault) {
-		fmt.Println(fault.Pos, fault.Cause.String())
+		fmt.Println(fault.Offset, fault.Cause.String())
 	}
-	if errors.Is(err, bpfcanon.InsnSrc) {
+	if errors.Is(err, bpfcanon.ErrInsnSrc) {
 		fmt.Println("is this the other byte order?")
 	}
 	fmt.Println(err)
@@ -40,12 +40,12 @@ func ExampleFaultError() {
 }
 
 // A program from a listing, and its conformance groups.
-func ExampleInsnRead() {
-	program, err := bpfcanon.InsnRead(bpfcanon.Little, []byte("mul32 r0, 3 ; the result\nexit\n"))
+func ExampleReadInsns() {
+	program, err := bpfcanon.ReadInsns(bpfcanon.Little, []byte("mul32 r0, 3 ; the result\nexit\n"))
 	if err != nil {
 		log.Fatal(err)
 	}
-	groups, err := bpfcanon.InsnGroups(bpfcanon.Little, program)
+	groups, err := bpfcanon.GroupsOf(bpfcanon.Little, program)
 	if err != nil {
 		log.Fatal(err)
 	}
@@ -55,8 +55,8 @@ func ExampleInsnRead() {
 	// base32 divmul32
 }
 
-func ExampleInsnShow() {
-	listing, err := bpfcanon.InsnShow(bpfcanon.Big, []byte{0xbf, 0x12, 0, 0, 0, 0, 0, 0, 0x95, 0, 0, 0, 0, 0, 0, 0})
+func ExampleShowInsns() {
+	listing, err := bpfcanon.ShowInsns(bpfcanon.Big, []byte{0xbf, 0x12, 0, 0, 0, 0, 0, 0, 0x95, 0, 0, 0, 0, 0, 0, 0})
 	if err != nil {
 		log.Fatal(err)
 	}
@@ -67,10 +67,10 @@ func ExampleInsnShow() {
 }
 
 // The types of a BTF file: one int.
-func ExampleBTFShow() {
+func ExampleShowBTF() {
 	types := []byte("\xeb\x9f\x01\x00\x00\x00\x00\x18\x00\x00\x00\x00\x00\x00\x00\x10\x00\x00\x00\x10\x00\x00\x00\x05" +
 		"\x00\x00\x00\x01\x01\x00\x00\x00\x00\x00\x00\x04\x01\x00\x00\x20\x00int\x00")
-	text, err := bpfcanon.BTFShow(types)
+	text, err := bpfcanon.ShowBTF(types)
 	if err != nil {
 		log.Fatal(err)
 	}

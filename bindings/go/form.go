@@ -1,35 +1,36 @@
 package bpfcanon
 
-import "bpfcanon/internal/capi"
+// #include <bpfcanon.h>
+import "C"
 
 // A Form is the form of an instruction: which of the structs it is.
 type Form uint8
 
 // The forms, each that of the struct with its name.
 const (
-	FormAlu        Form = capi.FormAlu
-	FormMovsx      Form = capi.FormMovsx
-	FormNeg        Form = capi.FormNeg
-	FormSwap       Form = capi.FormSwap
-	FormJump       Form = capi.FormJump
-	FormJumpLong   Form = capi.FormJumpLong
-	FormBranch     Form = capi.FormBranch
-	FormCallHelper Form = capi.FormCallHelper
-	FormCallLocal  Form = capi.FormCallLocal
-	FormCallBTF    Form = capi.FormCallBTF
-	FormExit       Form = capi.FormExit
-	FormLoad       Form = capi.FormLoad
-	FormLoadSigned Form = capi.FormLoadSigned
-	FormStoreImm   Form = capi.FormStoreImm
-	FormStoreReg   Form = capi.FormStoreReg
-	FormAtomic     Form = capi.FormAtomic
-	FormWide       Form = capi.FormWide
-	FormPacketAbs  Form = capi.FormPacketAbs
-	FormPacketInd  Form = capi.FormPacketInd
+	FormALU        Form = C.BPFCANON_FORM_ALU
+	FormMovsx      Form = C.BPFCANON_FORM_MOVSX
+	FormNeg        Form = C.BPFCANON_FORM_NEG
+	FormSwap       Form = C.BPFCANON_FORM_SWAP
+	FormJump       Form = C.BPFCANON_FORM_JUMP
+	FormJumpLong   Form = C.BPFCANON_FORM_JUMP_LONG
+	FormBranch     Form = C.BPFCANON_FORM_BRANCH
+	FormCallHelper Form = C.BPFCANON_FORM_CALL_HELPER
+	FormCallLocal  Form = C.BPFCANON_FORM_CALL_LOCAL
+	FormCallBTF    Form = C.BPFCANON_FORM_CALL_BTF
+	FormExit       Form = C.BPFCANON_FORM_EXIT
+	FormLoad       Form = C.BPFCANON_FORM_LOAD
+	FormLoadSigned Form = C.BPFCANON_FORM_LOAD_SIGNED
+	FormStoreImm   Form = C.BPFCANON_FORM_STORE_IMM
+	FormStoreReg   Form = C.BPFCANON_FORM_STORE_REG
+	FormAtomic     Form = C.BPFCANON_FORM_ATOMIC
+	FormWide       Form = C.BPFCANON_FORM_WIDE
+	FormPacketAbs  Form = C.BPFCANON_FORM_PACKET_ABS
+	FormPacketInd  Form = C.BPFCANON_FORM_PACKET_IND
 )
 
 var formNames = map[Form]string{
-	FormAlu: "alu", FormMovsx: "movsx", FormNeg: "neg", FormSwap: "swap", FormJump: "jump", FormJumpLong: "jump_long",
+	FormALU: "alu", FormMovsx: "movsx", FormNeg: "neg", FormSwap: "swap", FormJump: "jump", FormJumpLong: "jump_long",
 	FormBranch: "branch", FormCallHelper: "call_helper", FormCallLocal: "call_local", FormCallBTF: "call_btf",
 	FormExit: "exit", FormLoad: "load", FormLoadSigned: "load_signed", FormStoreImm: "store_imm",
 	FormStoreReg: "store_reg", FormAtomic: "atomic", FormWide: "wide", FormPacketAbs: "packet_abs",

@@ -15,11 +15,11 @@ import (
 // `go test -run Changed -args -changes=1000000` tries more.
 var changes = flag.Int("changes", 20_000, "how many changed inputs a test tries")
 
-// Checks the types that any bytes are decoded to: the answer is that of BTFCheck, the values are those of the listing that BTFShow
-// writes, everything that they refer to is there, and encoded they are the bytes of BTFCanon. Returns whether they are decoded.
+// Checks the types that any bytes are decoded to: the answer is that of CheckBTF, the values are those of the listing that ShowBTF
+// writes, everything that they refer to is there, and encoded they are the bytes of CanonBTF. Returns whether they are decoded.
 func checkTypes(t *testing.T, file []byte) bool {
 	t.Helper()
-	count, want := bpfcanon.BTFCheck(file)
+	count, want := bpfcanon.CheckBTF(file)
 	b, err := bpfcanon.DecodeBTF(file)
 	if !reflect.DeepEqual(err, want) {
 		t.Errorf("%v, want %v", err, want)
@@ -30,12 +30,12 @@ func checkTypes(t *testing.T, file []byte) bool {
 	if b.Len() != count {
 		t.Errorf("%d types, want %d", b.Len(), count)
 	}
-	listing, err := bpfcanon.BTFShow(file)
+	listing, err := bpfcanon.ShowBTF(file)
 	wantBytes(t, "decoded types", []byte(typeListingOf(b)), err, listing)
 	for id := bpfcanon.ID(1); int(id) <= b.Len(); id++ {
 		checkReferences(t, b, id)
 	}
-	canonical, err := bpfcanon.BTFCanon(bpfcanon.Little, file)
+	canonical, err := bpfcanon.CanonBTF(bpfcanon.Little, file)
 	if err != nil {
 		t.Error(err)
 	}
@@ -47,7 +47,7 @@ func checkTypes(t *testing.T, file []byte) bool {
 // Checks the name of a type, and what it is without its qualifiers.
 func checkReferences(t *testing.T, b *bpfcanon.BTF, id bpfcanon.ID) {
 	t.Helper()
-	name := b.Name(id)
+	name := must(b.Name(id))
 	if !utf8.ValidString(name) {
 		t.Errorf("the name of %d is %q", id, name)
 	}
@@ -61,19 +61,19 @@ func checkReferences(t *testing.T, b *bpfcanon.BTF, id bpfcanon.ID) {
 	target, err := b.Resolve(id)
 	if err == nil {
 		again, err := b.Resolve(target)
-		if again != target || err != nil || b.Type(target) == nil {
+		if again != target || err != nil || must(b.Type(target)) == nil {
 			t.Errorf("%d is %d, which is %d, %v", id, target, again, err)
 		}
-	} else if err != bpfcanon.ErrCircle {
+	} else if err != bpfcanon.ErrCycle {
 		t.Errorf("%d: %v", id, err)
 	}
 }
 
-// Checks the instructions that any bytes are decoded to: the answer is that of InsnCanon, the values are those of the listing that
-// InsnShow writes, and encoded they are the bytes of InsnCanon. Returns whether they are decoded.
+// Checks the instructions that any bytes are decoded to: the answer is that of CanonInsns, the values are those of the listing that
+// ShowInsns writes, and encoded they are the bytes of CanonInsns. Returns whether they are decoded.
 func checkInsns(t *testing.T, order bpfcanon.Order, program []byte) bool {
 	t.Helper()
-	_, want := bpfcanon.InsnCanon(order, bpfcanon.Little, program)
+	_, want := bpfcanon.CanonInsns(order, bpfcanon.Little, program)
 	decoded, err := bpfcanon.DecodeInsns(order, program)
 	if !reflect.DeepEqual(err, want) {
 		t.Errorf("%v, want %v", err, want)
@@ -81,10 +81,10 @@ func checkInsns(t *testing.T, order bpfcanon.Order, program []byte) bool {
 	if err != nil {
 		return false
 	}
-	listing, err := bpfcanon.InsnShow(order, program)
+	listing, err := bpfcanon.ShowInsns(order, program)
 	wantBytes(t, "decoded instructions", []byte(listingOf(decoded)), err, listing)
 	for _, to := range orders {
-		want, err := bpfcanon.InsnCanon(order, to, program)
+		want, err := bpfcanon.CanonInsns(order, to, program)
 		if err != nil {
 			t.Error(err)
 		}
@@ -104,7 +104,7 @@ func insnOf(form, op, bits, dst, src uint8, off int16, imm, next int32) bpfcanon
 		bpfcanon.MapValueIdx{Index: imm, Offset: next},
 	}
 	all := []bpfcanon.Insn{
-		bpfcanon.Alu{Width: width, Op: bpfcanon.AluOp(op), Dst: to, Arg: arg}, bpfcanon.Movsx{Form: bpfcanon.MovsxForm(op), Dst: to, Src: from},
+		bpfcanon.ALU{Width: width, Op: bpfcanon.ALUOp(op), Dst: to, Arg: arg}, bpfcanon.Movsx{Form: bpfcanon.MovsxForm(op), Dst: to, Src: from},
 		bpfcanon.Neg{Width: width, Dst: to}, bpfcanon.Swap{Kind: bpfcanon.SwapKind(op), Bits: bpfcanon.SwapBits(bits), Dst: to},
 		bpfcanon.Jump{Off: off}, bpfcanon.JumpLong{Imm: imm},
 		bpfcanon.Branch{Width: width, Op: bpfcanon.BranchOp(op), Dst: to, Arg: arg, Off: off},
@@ -124,7 +124,7 @@ func checkEncoding(t *testing.T, insn bpfcanon.Insn) bool {
 	encodings := 0
 	for _, to := range orders {
 		program, err := bpfcanon.EncodeInsns(to, []bpfcanon.Insn{insn})
-		var refused *bpfcanon.EncodeError
+		var refused *bpfcanon.EncodeInsnError
 		if errors.As(err, &refused) {
 			continue
 		}

@@ -1,23 +1,22 @@
 package bpfcanon
 
-import (
-	"strings"
+// #include <bpfcanon.h>
+import "C"
 
-	"bpfcanon/internal/capi"
-)
+import "strings"
 
 // Groups is a set of conformance groups (RFC 9669 section 2.4): instructions that a runtime
 // supports together.
 type Groups uint32
 
 const (
-	Base32   Groups = capi.Base32
-	Base64   Groups = capi.Base64 // includes Base32
-	Atomic32 Groups = capi.Atomic32
-	Atomic64 Groups = capi.Atomic64 // includes Atomic32
-	Divmul32 Groups = capi.Divmul32
-	Divmul64 Groups = capi.Divmul64 // includes Divmul32
-	Packet   Groups = capi.Packet   // legacy packet access
+	GroupBase32   Groups = C.BPFCANON_GROUP_BASE32
+	GroupBase64   Groups = C.BPFCANON_GROUP_BASE64 // includes GroupBase32
+	GroupAtomic32 Groups = C.BPFCANON_GROUP_ATOMIC32
+	GroupAtomic64 Groups = C.BPFCANON_GROUP_ATOMIC64 // includes GroupAtomic32
+	GroupDivmul32 Groups = C.BPFCANON_GROUP_DIVMUL32
+	GroupDivmul64 Groups = C.BPFCANON_GROUP_DIVMUL64 // includes GroupDivmul32
+	GroupPacket   Groups = C.BPFCANON_GROUP_PACKET   // legacy packet access
 )
 
 // groupNames lists the names of the groups in the order of their bits.

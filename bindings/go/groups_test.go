@@ -11,8 +11,8 @@ var groups = []struct {
 	group bpfcanon.Groups
 	name  string
 }{
-	{bpfcanon.Base32, "base32"}, {bpfcanon.Base64, "base64"}, {bpfcanon.Atomic32, "atomic32"}, {bpfcanon.Atomic64, "atomic64"},
-	{bpfcanon.Divmul32, "divmul32"}, {bpfcanon.Divmul64, "divmul64"}, {bpfcanon.Packet, "packet"},
+	{bpfcanon.GroupBase32, "base32"}, {bpfcanon.GroupBase64, "base64"}, {bpfcanon.GroupAtomic32, "atomic32"}, {bpfcanon.GroupAtomic64, "atomic64"},
+	{bpfcanon.GroupDivmul32, "divmul32"}, {bpfcanon.GroupDivmul64, "divmul64"}, {bpfcanon.GroupPacket, "packet"},
 }
 
 // A set has the groups that are in it, by themselves and together, and no others.

@@ -13,7 +13,7 @@ func operandOf(r *capi.Insn) Operand {
 // checkForms returns an error for the first record of a form that this package doesn't know.
 func checkForms(records []capi.Insn) error {
 	for i := range records {
-		if form := records[i].Form; form < capi.FormAlu || form > capi.FormPacketInd {
+		if form := Form(records[i].Form); form < FormALU || form > FormPacketInd {
 			return &UnknownRecordError{i}
 		}
 	}
@@ -23,32 +23,32 @@ func checkForms(records []capi.Insn) error {
 // insnOf returns the instruction that a decoded record says. Its form is a known one.
 func insnOf(r *capi.Insn) Insn {
 	width, size, dst, src := Width(r.Bits), Size(r.Bits), Reg(r.Dst), Reg(r.Src)
-	switch r.Form {
-	case capi.FormAlu:
-		return Alu{width, AluOp(r.Op), dst, operandOf(r)}
-	case capi.FormMovsx:
-		return Movsx{movsxForm(r.Bits, r.From), dst, src}
-	case capi.FormNeg:
+	switch Form(r.Form) {
+	case FormALU:
+		return ALU{width, ALUOp(r.Op), dst, operandOf(r)}
+	case FormMovsx:
+		return Movsx{movsxForm(r.Bits, r.FromBits), dst, src}
+	case FormNeg:
 		return Neg{width, dst}
-	case capi.FormSwap:
+	case FormSwap:
 		return Swap{SwapKind(r.Op), SwapBits(r.Bits), dst}
-	case capi.FormBranch:
+	case FormBranch:
 		return Branch{width, BranchOp(r.Op), dst, operandOf(r), r.Off}
-	case capi.FormLoad:
+	case FormLoad:
 		return Load{size, dst, src, r.Off}
-	case capi.FormLoadSigned:
+	case FormLoadSigned:
 		return LoadSigned{size, dst, src, r.Off}
-	case capi.FormStoreImm:
+	case FormStoreImm:
 		return StoreImm{size, dst, r.Off, r.Imm}
-	case capi.FormStoreReg:
+	case FormStoreReg:
 		return StoreReg{size, dst, src, r.Off}
-	case capi.FormAtomic:
+	case FormAtomic:
 		return Atomic{width, AtomicOp(r.Op), dst, src, r.Off}
-	case capi.FormWide:
+	case FormWide:
 		return Wide{dst, wideOf(r)}
-	case capi.FormPacketAbs:
+	case FormPacketAbs:
 		return PacketAbs{size, r.Imm}
-	case capi.FormPacketInd:
+	case FormPacketInd:
 		return PacketInd{size, src, r.Imm}
 	}
 	return flowOf(r)
@@ -56,16 +56,16 @@ func insnOf(r *capi.Insn) Insn {
 
 // flowOf returns the jump, call or return without registers that a decoded record says.
 func flowOf(r *capi.Insn) Insn {
-	switch r.Form {
-	case capi.FormJump:
+	switch Form(r.Form) {
+	case FormJump:
 		return Jump{r.Off}
-	case capi.FormJumpLong:
+	case FormJumpLong:
 		return JumpLong{r.Imm}
-	case capi.FormCallHelper:
+	case FormCallHelper:
 		return CallHelper{r.Imm}
-	case capi.FormCallLocal:
+	case FormCallLocal:
 		return CallLocal{r.Imm}
-	case capi.FormCallBTF:
+	case FormCallBTF:
 		return CallBTF{r.Imm, r.Off}
 	}
 	return Exit{}

@@ -17,26 +17,26 @@ var insns = []struct{ line, little, big string }{
 }
 
 func TestNoInstructionsAndComments(t *testing.T) {
-	got, err := bpfcanon.InsnCanon(bpfcanon.Big, bpfcanon.Little, nil)
+	got, err := bpfcanon.CanonInsns(bpfcanon.Big, bpfcanon.Little, nil)
 	wantBytes(t, "no instructions", got, err, nil)
-	got, err = bpfcanon.InsnRead(bpfcanon.Little, []byte("; a comment\n\n\texit # and another"))
+	got, err = bpfcanon.ReadInsns(bpfcanon.Little, []byte("; a comment\n\n\texit # and another"))
 	wantBytes(t, "a listing with comments", got, err, unhex(t, insns[5].little))
 }
 
 func TestCompiledProgramsHaveOneForm(t *testing.T) {
 	for _, name := range []string{"packet_filter", "hash_words"} {
 		little, big := load(t, name+".little.bin"), load(t, name+".big.bin")
-		got, err := bpfcanon.InsnCanon(bpfcanon.Big, bpfcanon.Little, big)
+		got, err := bpfcanon.CanonInsns(bpfcanon.Big, bpfcanon.Little, big)
 		wantBytes(t, name+", big to little", got, err, little)
-		got, err = bpfcanon.InsnCanon(bpfcanon.Little, bpfcanon.Big, little)
+		got, err = bpfcanon.CanonInsns(bpfcanon.Little, bpfcanon.Big, little)
 		wantBytes(t, name+", little to big", got, err, big)
-		listing, err := bpfcanon.InsnShow(bpfcanon.Big, big)
+		listing, err := bpfcanon.ShowInsns(bpfcanon.Big, big)
 		if err != nil {
 			t.Fatal(err)
 		}
-		got, err = bpfcanon.InsnRead(bpfcanon.Little, listing)
+		got, err = bpfcanon.ReadInsns(bpfcanon.Little, listing)
 		wantBytes(t, name+", listed and read", got, err, little)
-		if same, err := bpfcanon.InsnSame(bpfcanon.Big, big, bpfcanon.Little, little); !same || err != nil {
+		if same, err := bpfcanon.SameInsns(bpfcanon.Big, big, bpfcanon.Little, little); !same || err != nil {
 			t.Errorf("%s: compared %v, %v", name, same, err)
 		}
 	}

@@ -11,16 +11,9 @@ type Member struct {
 	Width     uint8
 }
 
-// An EnumValue is a value of an Enum (btf.rst section 2.2.6). Value is negative only if the Enum is
-// signed.
+// An EnumValue is a value of an Enum or an Enum64 (btf.rst sections 2.2.6 and 2.2.19) as 64 bits: if
+// the enum is signed, the value is int64(Value).
 type EnumValue struct {
-	Name  string
-	Value int64
-}
-
-// A Value64 is a value of an Enum64, as its 64 bits (btf.rst section 2.2.19). If the Enum64 is
-// signed, the value is int64(Value).
-type Value64 struct {
 	Name  string
 	Value uint64
 }
@@ -39,70 +32,37 @@ type Entry struct {
 	Offset, Size uint32
 }
 
-// items are the items of a type: a range of those of all types.
-type items struct {
-	of           *BTF
-	first, count uint32
-}
-
-// Len returns the number of items.
-func (it items) Len() int {
-	return int(it.count)
-}
-
-// at returns record i and its name.
-func (it items) at(i int) (*capi.BTFItem, string) {
-	r := &it.of.items[it.first : it.first+it.count][i]
-	return r, it.of.text[r.Name : r.Name+r.NameLen]
-}
-
-// Members are the members of a Struct or Union. Nothing is allocated for them.
-type Members struct{ items }
-
-// At returns member i, counted from 0. It panics if i isn't less than Len.
-func (m Members) At(i int) Member {
-	r, name := m.at(i)
-	return Member{name, ID(r.Target), r.BitOffset, uint8(r.Width)}
-}
-
-// Values are the values of an Enum. Nothing is allocated for them.
-type Values struct {
-	items
-	signed bool
-}
-
-// At returns value i, counted from 0. It panics if i isn't less than Len.
-func (v Values) At(i int) EnumValue {
-	r, name := v.at(i)
-	if v.signed {
-		return EnumValue{name, int64(int32(uint32(r.Value)))}
+// itemsOf returns the items of a type, each made of its record and its name, and nil without items.
+func itemsOf[T any](b *BTF, r *capi.BTFType, itemOf func(it *capi.BTFItem, name string) T) []T {
+	if r.Items == 0 {
+		return nil
 	}
-	return EnumValue{name, int64(r.Value)}
+	records := b.items[r.First : r.First+uint32(r.Items)]
+	items := make([]T, len(records))
+	for i := range records {
+		it := &records[i]
+		items[i] = itemOf(it, b.text[it.Name:it.Name+it.NameLen])
+	}
+	return items
 }
 
-// Values64 are the values of an Enum64. Nothing is allocated for them.
-type Values64 struct{ items }
-
-// At returns value i, counted from 0. It panics if i isn't less than Len.
-func (v Values64) At(i int) Value64 {
-	r, name := v.at(i)
-	return Value64{name, r.Value}
+func memberOf(it *capi.BTFItem, name string) Member {
+	return Member{name, ID(it.Target), it.BitOffset, uint8(it.Width)}
 }
 
-// Params are the parameters of a FuncProto. Nothing is allocated for them.
-type Params struct{ items }
-
-// At returns parameter i, counted from 0. It panics if i isn't less than Len.
-func (p Params) At(i int) Param {
-	r, name := p.at(i)
-	return Param{name, ID(r.Target)}
+func enumValueOf(it *capi.BTFItem, name string) EnumValue {
+	return EnumValue{name, it.Value}
 }
 
-// Entries are the entries of a Datasec. Nothing is allocated for them.
-type Entries struct{ items }
+// signedValueOf returns a value of a signed Enum, whose record has 32 bits of it.
+func signedValueOf(it *capi.BTFItem, name string) EnumValue {
+	return EnumValue{name, uint64(int32(it.Value))}
+}
 
-// At returns entry i, counted from 0. It panics if i isn't less than Len.
-func (e Entries) At(i int) Entry {
-	r, _ := e.at(i)
-	return Entry{ID(r.Target), r.Offset, r.Size}
+func paramOf(it *capi.BTFItem, name string) Param {
+	return Param{name, ID(it.Target)}
+}
+
+func entryOf(it *capi.BTFItem, _ string) Entry {
+	return Entry{ID(it.Target), it.Offset, it.Size}
 }

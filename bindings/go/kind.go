@@ -1,6 +1,7 @@
 package bpfcanon
 
-import "bpfcanon/internal/capi"
+// #include <bpfcanon.h>
+import "C"
 
 // A Kind is the kind of a type: which of the structs it is (btf.rst section 2.2).
 type Kind uint8
@@ -8,25 +9,25 @@ type Kind uint8
 // The kinds, each that of the struct with its name. Their numbers are those of btf.rst.
 const (
 	KindVoid      Kind = 0 // of the type with ID 0
-	KindInt       Kind = capi.KindInt
-	KindPtr       Kind = capi.KindPtr
-	KindArray     Kind = capi.KindArray
-	KindStruct    Kind = capi.KindStruct
-	KindUnion     Kind = capi.KindUnion
-	KindEnum      Kind = capi.KindEnum
-	KindFwd       Kind = capi.KindFwd
-	KindTypedef   Kind = capi.KindTypedef
-	KindVolatile  Kind = capi.KindVolatile
-	KindConst     Kind = capi.KindConst
-	KindRestrict  Kind = capi.KindRestrict
-	KindFunc      Kind = capi.KindFunc
-	KindFuncProto Kind = capi.KindFuncProto
-	KindVar       Kind = capi.KindVar
-	KindDatasec   Kind = capi.KindDatasec
-	KindFloat     Kind = capi.KindFloat
-	KindDeclTag   Kind = capi.KindDeclTag
-	KindTypeTag   Kind = capi.KindTypeTag
-	KindEnum64    Kind = capi.KindEnum64
+	KindInt       Kind = C.BPFCANON_BTF_KIND_INT
+	KindPtr       Kind = C.BPFCANON_BTF_KIND_PTR
+	KindArray     Kind = C.BPFCANON_BTF_KIND_ARRAY
+	KindStruct    Kind = C.BPFCANON_BTF_KIND_STRUCT
+	KindUnion     Kind = C.BPFCANON_BTF_KIND_UNION
+	KindEnum      Kind = C.BPFCANON_BTF_KIND_ENUM
+	KindFwd       Kind = C.BPFCANON_BTF_KIND_FWD
+	KindTypedef   Kind = C.BPFCANON_BTF_KIND_TYPEDEF
+	KindVolatile  Kind = C.BPFCANON_BTF_KIND_VOLATILE
+	KindConst     Kind = C.BPFCANON_BTF_KIND_CONST
+	KindRestrict  Kind = C.BPFCANON_BTF_KIND_RESTRICT
+	KindFunc      Kind = C.BPFCANON_BTF_KIND_FUNC
+	KindFuncProto Kind = C.BPFCANON_BTF_KIND_FUNC_PROTO
+	KindVar       Kind = C.BPFCANON_BTF_KIND_VAR
+	KindDatasec   Kind = C.BPFCANON_BTF_KIND_DATASEC
+	KindFloat     Kind = C.BPFCANON_BTF_KIND_FLOAT
+	KindDeclTag   Kind = C.BPFCANON_BTF_KIND_DECL_TAG
+	KindTypeTag   Kind = C.BPFCANON_BTF_KIND_TYPE_TAG
+	KindEnum64    Kind = C.BPFCANON_BTF_KIND_ENUM64
 )
 
 var kindNames = map[Kind]string{
@@ -43,10 +44,10 @@ func (k Kind) String() string { return nameOr(kindNames[k], "Kind", uint32(k)) }
 type Encoding uint8
 
 const (
-	EncodingPlain  Encoding = 0 // no encoding bit: unsigned
-	EncodingSigned Encoding = 1 // BTF_INT_SIGNED
-	EncodingChar   Encoding = 2 // BTF_INT_CHAR: a character
-	EncodingBool   Encoding = 4 // BTF_INT_BOOL: a boolean
+	EncodingPlain  Encoding = C.BPFCANON_BTF_ENCODING_PLAIN  // no encoding bit: unsigned
+	EncodingSigned Encoding = C.BPFCANON_BTF_ENCODING_SIGNED // BTF_INT_SIGNED
+	EncodingChar   Encoding = C.BPFCANON_BTF_ENCODING_CHAR   // BTF_INT_CHAR: a character
+	EncodingBool   Encoding = C.BPFCANON_BTF_ENCODING_BOOL   // BTF_INT_BOOL: a boolean
 )
 
 var encodingNames = map[Encoding]string{
@@ -61,9 +62,9 @@ type Linkage uint8
 
 // The linkages, with the numbers that BTF has for them.
 const (
-	LinkageStatic Linkage = 0
-	LinkageGlobal Linkage = 1
-	LinkageExtern Linkage = 2
+	LinkageStatic Linkage = C.BPFCANON_BTF_LINKAGE_STATIC
+	LinkageGlobal Linkage = C.BPFCANON_BTF_LINKAGE_GLOBAL
+	LinkageExtern Linkage = C.BPFCANON_BTF_LINKAGE_EXTERN
 )
 
 var linkageNames = map[Linkage]string{LinkageStatic: "static", LinkageGlobal: "global", LinkageExtern: "extern"}

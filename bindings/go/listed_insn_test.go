@@ -31,14 +31,14 @@ func memory(base bpfcanon.Reg, offset int16) string {
 // The line of an instruction in a listing, by the table of docs/FORMATS.md and without the library.
 func lineOf(insn bpfcanon.Insn) string {
 	switch it := insn.(type) {
-	case bpfcanon.Alu:
+	case bpfcanon.ALU:
 		return fmt.Sprintf("%v%s %v, %v", it.Op, suffix(it.Width), it.Dst, it.Arg)
 	case bpfcanon.Movsx:
 		return fmt.Sprintf("%s %v, %v", movsxMnemonics[it.Form], it.Dst, it.Src)
 	case bpfcanon.Neg:
 		return fmt.Sprintf("neg%s %v", suffix(it.Width), it.Dst)
 	case bpfcanon.Swap:
-		return fmt.Sprintf("%v%d %v", it.Kind, uint8(it.Bits), it.Dst)
+		return fmt.Sprintf("%s%d %v", strings.Replace(it.Kind.String(), "bytes", "swap", 1), uint8(it.Bits), it.Dst)
 	case bpfcanon.Jump:
 		return fmt.Sprintf("ja %+d", it.Off)
 	case bpfcanon.JumpLong:
@@ -72,7 +72,7 @@ func memoryLine(insn bpfcanon.Insn) string {
 		return fmt.Sprintf("stx%s %s, %v", sizeLetters[it.Size], memory(it.Dst, it.Off), it.Src)
 	case bpfcanon.Atomic:
 		name := it.Op.String()
-		if !strings.HasPrefix(name, "fetch_") && it.Op != bpfcanon.Xchg && it.Op != bpfcanon.Cmpxchg {
+		if !strings.HasPrefix(name, "fetch_") && it.Op != bpfcanon.AtomicXchg && it.Op != bpfcanon.AtomicCmpxchg {
 			name = "atomic_" + name
 		}
 		return fmt.Sprintf("%s%s %s, %v", name, suffix(it.Width), memory(it.Dst, it.Off), it.Src)

@@ -35,7 +35,7 @@ func word(flag bool, set, unset string) string {
 func typeLine(it bpfcanon.Type) (line string, items []string) {
 	switch it := it.(type) {
 	case bpfcanon.Int:
-		line = fmt.Sprintf("%s size=%d encoding=%v offset=%d bits=%d", quoted(it.Name), it.Size, it.Encoding, it.Offset, it.Bits)
+		line = fmt.Sprintf("%s size=%d encoding=%v offset=%d bits=%d", quoted(it.Name), it.Size, it.Encoding, it.BitOffset, it.Bits)
 	case bpfcanon.Ptr:
 		line = fmt.Sprintf("type=%d", it.Target)
 	case bpfcanon.Array:
@@ -65,24 +65,21 @@ func otherLine(it bpfcanon.Type) (line string, items []string) {
 	switch it := it.(type) {
 	case bpfcanon.Enum:
 		line = fmt.Sprintf("%s %s size=%d", quoted(it.Name), word(it.Signed, "signed", "unsigned"), it.Size)
-		for i := 0; i < it.Values.Len(); i++ {
-			items = append(items, fmt.Sprintf("value %s %d", quoted(it.Values.At(i).Name), it.Values.At(i).Value))
-		}
+		items = valueLines(it.Values, it.Signed)
 	case bpfcanon.Enum64:
-		line, items = fmt.Sprintf("%s %s size=%d", quoted(it.Name), word(it.Signed, "signed", "unsigned"), it.Size), value64Lines(it)
+		line, items = fmt.Sprintf("%s %s size=%d", quoted(it.Name), word(it.Signed, "signed", "unsigned"), it.Size), valueLines(it.Values, it.Signed)
 	case bpfcanon.Func:
 		line = fmt.Sprintf("%s %v type=%d", quoted(it.Name), it.Linkage, it.Target)
 	case bpfcanon.FuncProto:
 		line = fmt.Sprintf("type=%d", it.Target)
-		for i := 0; i < it.Params.Len(); i++ {
-			items = append(items, fmt.Sprintf("param %s type=%d", quoted(it.Params.At(i).Name), it.Params.At(i).Target))
+		for _, param := range it.Params {
+			items = append(items, fmt.Sprintf("param %s type=%d", quoted(param.Name), param.Target))
 		}
 	case bpfcanon.Var:
 		line = fmt.Sprintf("%s %v type=%d", quoted(it.Name), it.Linkage, it.Target)
 	case bpfcanon.Datasec:
 		line = fmt.Sprintf("%s size=%d", quoted(it.Name), it.Size)
-		for i := 0; i < it.Entries.Len(); i++ {
-			entry := it.Entries.At(i)
+		for _, entry := range it.Entries {
 			items = append(items, fmt.Sprintf("entry type=%d offset=%d size=%d", entry.Target, entry.Offset, entry.Size))
 		}
 	case bpfcanon.Float:
@@ -95,19 +92,17 @@ func otherLine(it bpfcanon.Type) (line string, items []string) {
 	return line, items
 }
 
-func memberLines(members bpfcanon.Members) (lines []string) {
-	for i := 0; i < members.Len(); i++ {
-		it := members.At(i)
+func memberLines(members []bpfcanon.Member) (lines []string) {
+	for _, it := range members {
 		lines = append(lines, fmt.Sprintf("member %s type=%d offset=%d width=%d", quoted(it.Name), it.Target, it.BitOffset, it.Width))
 	}
 	return lines
 }
 
-func value64Lines(enum bpfcanon.Enum64) (lines []string) {
-	for i := 0; i < enum.Values.Len(); i++ {
-		it := enum.Values.At(i)
+func valueLines(values []bpfcanon.EnumValue, signed bool) (lines []string) {
+	for _, it := range values {
 		number := fmt.Sprint(it.Value)
-		if enum.Signed {
+		if signed {
 			number = fmt.Sprint(int64(it.Value))
 		}
 		lines = append(lines, fmt.Sprintf("value %s %s", quoted(it.Name), number))
@@ -127,10 +122,10 @@ func hasItems(kind bpfcanon.Kind) bool {
 // The type listing of BTF.
 func typeListingOf(b *bpfcanon.BTF) string {
 	var lines []byte
-	for id := bpfcanon.ID(1); int(id) <= b.Len(); id++ {
-		line, items := typeLine(b.Type(id))
-		lines = fmt.Appendf(lines, "[%d] %v %s", id, b.Kind(id), line)
-		if hasItems(b.Kind(id)) {
+	for i, it := range b.Types() {
+		line, items := typeLine(it)
+		lines = fmt.Appendf(lines, "[%d] %v %s", i+1, it.Kind(), line)
+		if hasItems(it.Kind()) {
 			lines = fmt.Appendf(lines, " items=%d", len(items))
 		}
 		lines = append(lines, '\n')

@@ -10,7 +10,7 @@ type names struct {
 func newNames(b *BTF) names {
 	it := names{make(map[string]ID, b.Len()), make([]ID, b.Len()+1)}
 	for id := ID(b.Len()); id > 0; id-- {
-		if name := b.Name(id); name != "" {
+		if name := b.nameOf(&b.types[id-1]); name != "" {
 			it.next[id] = it.first[name]
 			it.first[name] = id
 		}

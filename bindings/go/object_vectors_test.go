@@ -48,7 +48,7 @@ func TestObjects(t *testing.T) {
 	rows := objectVectors(t, "object")
 	for i, row := range rows {
 		t.Run(row.file, func(t *testing.T) {
-			canonical, err := objects.Canonical(row.data)
+			canonical, err := objects.Canon(row.data)
 			if got := fmt.Sprintf("%x", sha256.Sum256(canonical)); err != nil || got != row.fields[0] {
 				t.Errorf("canonical file with SHA-256 %s, %v", got, err)
 			}
@@ -59,7 +59,7 @@ func TestObjects(t *testing.T) {
 			if err := objects.Check(row.data); err != nil {
 				t.Error(err)
 			}
-			if again, err := objects.Canonical(canonical); err != nil || !bytes.Equal(again, canonical) {
+			if again, err := objects.Canon(canonical); err != nil || !bytes.Equal(again, canonical) {
 				t.Errorf("the canonical file isn't its own: %v", err)
 			}
 			for _, other := range []objectVector{row, rows[(i+1)%len(rows)]} {
@@ -76,11 +76,11 @@ func TestObjects(t *testing.T) {
 func objectCause(name string) bpfcanon.Cause {
 	ofTypes := strings.HasPrefix(name, "Types(")
 	name = strings.TrimSuffix(strings.TrimPrefix(name, "Types("), ")")
-	for number := uint32(1); number <= uint32(bpfcanon.ObjectResultTooLarge); number++ {
+	for number := uint32(1); number <= uint32(bpfcanon.ErrObjectResultTooLarge); number++ {
 		if cause := bpfcanon.BTFCause(number); ofTypes && cause.String() == name {
 			return cause
 		}
-		if cause := bpfcanon.ObjectCause(number); cause >= bpfcanon.ObjectFileTooLarge && cause.String() == name {
+		if cause := bpfcanon.ObjectCause(number); cause >= bpfcanon.ErrObjectFileTooLarge && cause.String() == name {
 			return cause
 		}
 	}
@@ -99,8 +99,8 @@ func TestFaultyObjects(t *testing.T) {
 			if err != nil {
 				t.Fatal(err)
 			}
-			want := bpfcanon.FaultError{Cause: objectCause(row.fields[2]), Pos: pos}
-			_, canonicalErr := objects.Canonical(data)
+			want := bpfcanon.FaultError{Cause: objectCause(row.fields[2]), Offset: pos}
+			_, canonicalErr := objects.Canon(data)
 			_, keyErr := objects.Key(data)
 			_, sameErr := objects.Same(data, good)
 			for _, err := range []error{canonicalErr, keyErr, sameErr, objects.Check(data)} {

@@ -1,50 +1,51 @@
 package bpfcanon
 
-import "bpfcanon/internal/capi"
+// #include <bpfcanon.h>
+import "C"
 
-// An AluOp is an arithmetic operation (RFC 9669 section 4.1).
-type AluOp uint8
+// An ALUOp is an arithmetic operation (RFC 9669 section 4.1).
+type ALUOp uint8
 
 const (
-	AluAdd  AluOp = capi.AluAdd  // dst += arg
-	AluSub  AluOp = capi.AluSub  // dst -= arg
-	AluMul  AluOp = capi.AluMul  // dst *= arg
-	AluDiv  AluOp = capi.AluDiv  // dst /= arg, unsigned
-	AluSdiv AluOp = capi.AluSdiv // dst /= arg, signed
-	AluOr   AluOp = capi.AluOr   // dst |= arg
-	AluAnd  AluOp = capi.AluAnd  // dst &= arg
-	AluLsh  AluOp = capi.AluLsh  // dst <<= arg
-	AluRsh  AluOp = capi.AluRsh  // dst >>= arg, filled with zeros
-	AluMod  AluOp = capi.AluMod  // dst %= arg, unsigned
-	AluSmod AluOp = capi.AluSmod // dst %= arg, signed
-	AluXor  AluOp = capi.AluXor  // dst ^= arg
-	AluMov  AluOp = capi.AluMov  // dst = arg
-	AluArsh AluOp = capi.AluArsh // dst >>= arg, filled with the sign
+	ALUAdd  ALUOp = C.BPFCANON_ALU_ADD  // dst += arg
+	ALUSub  ALUOp = C.BPFCANON_ALU_SUB  // dst -= arg
+	ALUMul  ALUOp = C.BPFCANON_ALU_MUL  // dst *= arg
+	ALUDiv  ALUOp = C.BPFCANON_ALU_DIV  // dst /= arg, unsigned
+	ALUSdiv ALUOp = C.BPFCANON_ALU_SDIV // dst /= arg, signed
+	ALUOr   ALUOp = C.BPFCANON_ALU_OR   // dst |= arg
+	ALUAnd  ALUOp = C.BPFCANON_ALU_AND  // dst &= arg
+	ALULsh  ALUOp = C.BPFCANON_ALU_LSH  // dst <<= arg
+	ALURsh  ALUOp = C.BPFCANON_ALU_RSH  // dst >>= arg, filled with zeros
+	ALUMod  ALUOp = C.BPFCANON_ALU_MOD  // dst %= arg, unsigned
+	ALUSmod ALUOp = C.BPFCANON_ALU_SMOD // dst %= arg, signed
+	ALUXor  ALUOp = C.BPFCANON_ALU_XOR  // dst ^= arg
+	ALUMov  ALUOp = C.BPFCANON_ALU_MOV  // dst = arg
+	ALUArsh ALUOp = C.BPFCANON_ALU_ARSH // dst >>= arg, filled with the sign
 )
 
-var aluNames = map[AluOp]string{
-	AluAdd: "add", AluSub: "sub", AluMul: "mul", AluDiv: "div", AluSdiv: "sdiv", AluOr: "or", AluAnd: "and",
-	AluLsh: "lsh", AluRsh: "rsh", AluMod: "mod", AluSmod: "smod", AluXor: "xor", AluMov: "mov", AluArsh: "arsh",
+var aluNames = map[ALUOp]string{
+	ALUAdd: "add", ALUSub: "sub", ALUMul: "mul", ALUDiv: "div", ALUSdiv: "sdiv", ALUOr: "or", ALUAnd: "and",
+	ALULsh: "lsh", ALURsh: "rsh", ALUMod: "mod", ALUSmod: "smod", ALUXor: "xor", ALUMov: "mov", ALUArsh: "arsh",
 }
 
 // String returns the name of the operation, for example "arsh".
-func (o AluOp) String() string { return nameOr(aluNames[o], "AluOp", uint32(o)) }
+func (o ALUOp) String() string { return nameOr(aluNames[o], "ALUOp", uint32(o)) }
 
 // A BranchOp is the comparison of a branch (RFC 9669 section 4.3).
 type BranchOp uint8
 
 const (
-	BranchEq  BranchOp = capi.BranchEq  // dst == arg
-	BranchGt  BranchOp = capi.BranchGt  // dst > arg, unsigned
-	BranchGe  BranchOp = capi.BranchGe  // dst >= arg, unsigned
-	BranchSet BranchOp = capi.BranchSet // dst & arg isn't 0
-	BranchNe  BranchOp = capi.BranchNe  // dst != arg
-	BranchSgt BranchOp = capi.BranchSgt // dst > arg, signed
-	BranchSge BranchOp = capi.BranchSge // dst >= arg, signed
-	BranchLt  BranchOp = capi.BranchLt  // dst < arg, unsigned
-	BranchLe  BranchOp = capi.BranchLe  // dst <= arg, unsigned
-	BranchSlt BranchOp = capi.BranchSlt // dst < arg, signed
-	BranchSle BranchOp = capi.BranchSle // dst <= arg, signed
+	BranchEq  BranchOp = C.BPFCANON_BRANCH_EQ  // dst == arg
+	BranchGt  BranchOp = C.BPFCANON_BRANCH_GT  // dst > arg, unsigned
+	BranchGe  BranchOp = C.BPFCANON_BRANCH_GE  // dst >= arg, unsigned
+	BranchSet BranchOp = C.BPFCANON_BRANCH_SET // dst & arg isn't 0
+	BranchNe  BranchOp = C.BPFCANON_BRANCH_NE  // dst != arg
+	BranchSgt BranchOp = C.BPFCANON_BRANCH_SGT // dst > arg, signed
+	BranchSge BranchOp = C.BPFCANON_BRANCH_SGE // dst >= arg, signed
+	BranchLt  BranchOp = C.BPFCANON_BRANCH_LT  // dst < arg, unsigned
+	BranchLe  BranchOp = C.BPFCANON_BRANCH_LE  // dst <= arg, unsigned
+	BranchSlt BranchOp = C.BPFCANON_BRANCH_SLT // dst < arg, signed
+	BranchSle BranchOp = C.BPFCANON_BRANCH_SLE // dst <= arg, signed
 )
 
 var branchNames = map[BranchOp]string{
@@ -59,21 +60,21 @@ func (o BranchOp) String() string { return nameOr(branchNames[o], "BranchOp", ui
 type AtomicOp uint8
 
 const (
-	AtomicAdd AtomicOp = capi.AtomicAdd // addition
-	AtomicOr  AtomicOp = capi.AtomicOr  // bitwise or
-	AtomicAnd AtomicOp = capi.AtomicAnd // bitwise and
-	AtomicXor AtomicOp = capi.AtomicXor // bitwise exclusive or
-	FetchAdd  AtomicOp = capi.FetchAdd  // addition; src receives the old value
-	FetchOr   AtomicOp = capi.FetchOr   // bitwise or; src receives the old value
-	FetchAnd  AtomicOp = capi.FetchAnd  // bitwise and; src receives the old value
-	FetchXor  AtomicOp = capi.FetchXor  // bitwise exclusive or; src receives the old value
-	Xchg      AtomicOp = capi.Xchg      // stores src; src receives the old value
-	Cmpxchg   AtomicOp = capi.Cmpxchg   // stores src if the old value equals r0; r0 receives the old value
+	AtomicAdd      AtomicOp = C.BPFCANON_ATOMIC_ADD       // addition
+	AtomicOr       AtomicOp = C.BPFCANON_ATOMIC_OR        // bitwise or
+	AtomicAnd      AtomicOp = C.BPFCANON_ATOMIC_AND       // bitwise and
+	AtomicXor      AtomicOp = C.BPFCANON_ATOMIC_XOR       // bitwise exclusive or
+	AtomicFetchAdd AtomicOp = C.BPFCANON_ATOMIC_FETCH_ADD // addition; src receives the old value
+	AtomicFetchOr  AtomicOp = C.BPFCANON_ATOMIC_FETCH_OR  // bitwise or; src receives the old value
+	AtomicFetchAnd AtomicOp = C.BPFCANON_ATOMIC_FETCH_AND // bitwise and; src receives the old value
+	AtomicFetchXor AtomicOp = C.BPFCANON_ATOMIC_FETCH_XOR // bitwise exclusive or; src receives the old value
+	AtomicXchg     AtomicOp = C.BPFCANON_ATOMIC_XCHG      // stores src; src receives the old value
+	AtomicCmpxchg  AtomicOp = C.BPFCANON_ATOMIC_CMPXCHG   // stores src if the old value equals r0; r0 receives the old value
 )
 
 var atomicNames = map[AtomicOp]string{
-	AtomicAdd: "add", AtomicOr: "or", AtomicAnd: "and", AtomicXor: "xor", FetchAdd: "fetch_add", FetchOr: "fetch_or",
-	FetchAnd: "fetch_and", FetchXor: "fetch_xor", Xchg: "xchg", Cmpxchg: "cmpxchg",
+	AtomicAdd: "add", AtomicOr: "or", AtomicAnd: "and", AtomicXor: "xor", AtomicFetchAdd: "fetch_add", AtomicFetchOr: "fetch_or",
+	AtomicFetchAnd: "fetch_and", AtomicFetchXor: "fetch_xor", AtomicXchg: "xchg", AtomicCmpxchg: "cmpxchg",
 }
 
 // String returns the name of the operation, for example "fetch_add".

@@ -42,9 +42,9 @@ func (p *Program) Form(i int) Form {
 	return Form(p.records[i].Form)
 }
 
-// Pos returns the offset of instruction i in bytes. It panics if i isn't less than Len.
-func (p *Program) Pos(i int) uint64 {
-	return p.records[i].Pos
+// Offset returns the offset of instruction i in bytes. It panics if i isn't less than Len.
+func (p *Program) Offset(i int) uint64 {
+	return p.records[i].Offset
 }
 
 // Group returns the conformance group of instruction i, without the groups that it includes (RFC

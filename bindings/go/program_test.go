@@ -11,11 +11,11 @@ import (
 
 // The instructions of `insns` in insn_test.go, by RFC 9669.
 var values = []bpfcanon.Insn{
-	bpfcanon.Alu{Width: bpfcanon.W64, Op: bpfcanon.AluMov, Dst: 1, Arg: bpfcanon.Reg(2)},
+	bpfcanon.ALU{Width: bpfcanon.W64, Op: bpfcanon.ALUMov, Dst: 1, Arg: bpfcanon.Reg(2)},
 	bpfcanon.Wide{Dst: 1, What: bpfcanon.Number(0x1122334455667788)},
 	bpfcanon.Branch{Width: bpfcanon.W32, Op: bpfcanon.BranchEq, Dst: 3, Arg: bpfcanon.Imm(-2), Off: 5},
 	bpfcanon.StoreReg{Size: bpfcanon.SizeD, Dst: 10, Src: 1, Off: -8},
-	bpfcanon.Atomic{Width: bpfcanon.W64, Op: bpfcanon.Cmpxchg, Dst: 1, Src: 2, Off: -8},
+	bpfcanon.Atomic{Width: bpfcanon.W64, Op: bpfcanon.AtomicCmpxchg, Dst: 1, Src: 2, Off: -8},
 	bpfcanon.Exit{},
 }
 
@@ -36,8 +36,8 @@ func TestInstructionsAreDecodedAndEncoded(t *testing.T) {
 			t.Fatalf("%v: %v, %v", order, program, err)
 		}
 		for i, want := range offsets {
-			if program.Pos(i) != want || program.At(i) != values[i] {
-				t.Errorf("%v: %v at %d, want %v at %d", order, program.At(i), program.Pos(i), values[i], want)
+			if program.Offset(i) != want || program.At(i) != values[i] {
+				t.Errorf("%v: %v at %d, want %v at %d", order, program.At(i), program.Offset(i), values[i], want)
 			}
 		}
 		for _, to := range orders {
@@ -68,7 +68,7 @@ func TestCompiledProgramsAreDecoded(t *testing.T) {
 		if err != nil {
 			t.Fatal(name, err)
 		}
-		want, err := bpfcanon.InsnShow(order, file)
+		want, err := bpfcanon.ShowInsns(order, file)
 		wantBytes(t, name, []byte(listingOf(program)), err, want)
 		got, err := bpfcanon.EncodeInsns(order, program.Insns())
 		wantBytes(t, name, got, err, file)
@@ -96,7 +96,7 @@ func TestFormsAndPlacesAllocateNothing(t *testing.T) {
 	var sum uint64
 	if count := testing.AllocsPerRun(100, func() {
 		for i := 0; i < program.Len(); i++ {
-			sum += uint64(program.Form(i)) + program.Pos(i) + uint64(program.Group(i))
+			sum += uint64(program.Form(i)) + program.Offset(i) + uint64(program.Group(i))
 		}
 	}); count != 0 {
 		t.Errorf("%v allocations", count)

@@ -10,7 +10,7 @@ const none = 0xff
 // structs, has no form, so that the library refuses it.
 func recordOf(insn Insn) capi.Insn {
 	switch insn.(type) {
-	case Alu, Movsx, Neg, Swap, Jump, JumpLong, Branch, CallHelper, CallLocal, CallBTF, Exit, Load, LoadSigned,
+	case ALU, Movsx, Neg, Swap, Jump, JumpLong, Branch, CallHelper, CallLocal, CallBTF, Exit, Load, LoadSigned,
 		StoreImm, StoreReg, Atomic, Wide, PacketAbs, PacketInd:
 		return insn.record()
 	}
@@ -29,79 +29,79 @@ func setOperand(r *capi.Insn, arg Operand) {
 	}
 }
 
-func (i Alu) record() capi.Insn {
-	r := capi.Insn{Form: capi.FormAlu, Op: uint8(i.Op), Bits: uint8(i.Width), Dst: uint8(i.Dst)}
+func (i ALU) record() capi.Insn {
+	r := capi.Insn{Form: uint8(FormALU), Op: uint8(i.Op), Bits: uint8(i.Width), Dst: uint8(i.Dst)}
 	setOperand(&r, i.Arg)
 	return r
 }
 
 func (i Movsx) record() capi.Insn {
 	widths := i.Form.widths()
-	return capi.Insn{Form: capi.FormMovsx, Bits: widths.bits, From: widths.from, Dst: uint8(i.Dst), Src: uint8(i.Src)}
+	return capi.Insn{Form: uint8(FormMovsx), Bits: widths.bits, FromBits: widths.from, Dst: uint8(i.Dst), Src: uint8(i.Src)}
 }
 
 func (i Neg) record() capi.Insn {
-	return capi.Insn{Form: capi.FormNeg, Bits: uint8(i.Width), Dst: uint8(i.Dst)}
+	return capi.Insn{Form: uint8(FormNeg), Bits: uint8(i.Width), Dst: uint8(i.Dst)}
 }
 
 func (i Swap) record() capi.Insn {
-	return capi.Insn{Form: capi.FormSwap, Op: uint8(i.Kind), Bits: uint8(i.Bits), Dst: uint8(i.Dst)}
+	return capi.Insn{Form: uint8(FormSwap), Op: uint8(i.Kind), Bits: uint8(i.Bits), Dst: uint8(i.Dst)}
 }
 
 func (i Jump) record() capi.Insn {
-	return capi.Insn{Form: capi.FormJump, Off: i.Off}
+	return capi.Insn{Form: uint8(FormJump), Off: i.Off}
 }
 
 func (i JumpLong) record() capi.Insn {
-	return capi.Insn{Form: capi.FormJumpLong, Imm: i.Imm}
+	return capi.Insn{Form: uint8(FormJumpLong), Imm: i.Imm}
 }
 
 func (i Branch) record() capi.Insn {
-	r := capi.Insn{Form: capi.FormBranch, Op: uint8(i.Op), Bits: uint8(i.Width), Dst: uint8(i.Dst), Off: i.Off}
+	r := capi.Insn{Form: uint8(FormBranch), Op: uint8(i.Op), Bits: uint8(i.Width), Dst: uint8(i.Dst), Off: i.Off}
 	setOperand(&r, i.Arg)
 	return r
 }
 
 func (i CallHelper) record() capi.Insn {
-	return capi.Insn{Form: capi.FormCallHelper, Imm: i.ID}
+	return capi.Insn{Form: uint8(FormCallHelper), Imm: i.ID}
 }
 
 func (i CallLocal) record() capi.Insn {
-	return capi.Insn{Form: capi.FormCallLocal, Imm: i.Imm}
+	return capi.Insn{Form: uint8(FormCallLocal), Imm: i.Imm}
 }
 
 func (i CallBTF) record() capi.Insn {
-	return capi.Insn{Form: capi.FormCallBTF, Imm: i.ID, Off: i.Off}
+	return capi.Insn{Form: uint8(FormCallBTF), Imm: i.ID, Off: i.Off}
 }
 
 func (i Exit) record() capi.Insn {
-	return capi.Insn{Form: capi.FormExit}
+	return capi.Insn{Form: uint8(FormExit)}
 }
 
 func (i Load) record() capi.Insn {
-	return capi.Insn{Form: capi.FormLoad, Bits: uint8(i.Size), Dst: uint8(i.Dst), Src: uint8(i.Src), Off: i.Off}
+	return capi.Insn{Form: uint8(FormLoad), Bits: uint8(i.Size), Dst: uint8(i.Dst), Src: uint8(i.Src), Off: i.Off}
 }
 
 func (i LoadSigned) record() capi.Insn {
-	return capi.Insn{Form: capi.FormLoadSigned, Bits: uint8(i.Size), Dst: uint8(i.Dst), Src: uint8(i.Src), Off: i.Off}
+	return capi.Insn{Form: uint8(FormLoadSigned), Bits: uint8(i.Size), Dst: uint8(i.Dst), Src: uint8(i.Src), Off: i.Off}
 }
 
 func (i StoreImm) record() capi.Insn {
-	return capi.Insn{Form: capi.FormStoreImm, Bits: uint8(i.Size), Dst: uint8(i.Dst), Off: i.Off, Imm: i.Imm}
+	return capi.Insn{Form: uint8(FormStoreImm), Bits: uint8(i.Size), Dst: uint8(i.Dst), Off: i.Off, Imm: i.Imm}
 }
 
 func (i StoreReg) record() capi.Insn {
-	return capi.Insn{Form: capi.FormStoreReg, Bits: uint8(i.Size), Dst: uint8(i.Dst), Src: uint8(i.Src), Off: i.Off}
+	return capi.Insn{Form: uint8(FormStoreReg), Bits: uint8(i.Size), Dst: uint8(i.Dst), Src: uint8(i.Src), Off: i.Off}
 }
 
 func (i Atomic) record() capi.Insn {
 	return capi.Insn{
-		Form: capi.FormAtomic, Op: uint8(i.Op), Bits: uint8(i.Width), Dst: uint8(i.Dst), Src: uint8(i.Src), Off: i.Off,
+		Form: uint8(FormAtomic), Op: uint8(i.Op), Bits: uint8(i.Width), Dst: uint8(i.Dst), Src: uint8(i.Src), Off: i.Off,
 	}
 }
 
 func (i Wide) record() capi.Insn {
-	r := capi.Insn{Form: capi.FormWide, Op: none, Bits: 64, Dst: uint8(i.Dst)}
+	r := capi.Insn{Form: uint8(FormWide), Op: none, Bits: 64, Dst: uint8(i.Dst)}
 	switch i.What.(type) {
 	case Number, MapFD, MapValueFD, VarAddr, CodeAddr, MapIdx, MapValueIdx:
 		r.Op, r.Imm, r.NextImm = i.What.immediates()
@@ -110,9 +110,9 @@ func (i Wide) record() capi.Insn {
 }
 
 func (i PacketAbs) record() capi.Insn {
-	return capi.Insn{Form: capi.FormPacketAbs, Bits: uint8(i.Size), Imm: i.Imm}
+	return capi.Insn{Form: uint8(FormPacketAbs), Bits: uint8(i.Size), Imm: i.Imm}
 }
 
 func (i PacketInd) record() capi.Insn {
-	return capi.Insn{Form: capi.FormPacketInd, Bits: uint8(i.Size), Src: uint8(i.Src), Imm: i.Imm}
+	return capi.Insn{Form: uint8(FormPacketInd), Bits: uint8(i.Size), Src: uint8(i.Src), Imm: i.Imm}
 }

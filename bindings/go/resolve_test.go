@@ -46,7 +46,7 @@ func TestResolve(t *testing.T) {
 		}
 	}
 	for id := bpfcanon.ID(9); id <= 12; id++ {
-		if got, err := b.Resolve(id); got != 0 || err != bpfcanon.ErrCircle {
+		if got, err := b.Resolve(id); got != 0 || err != bpfcanon.ErrCycle {
 			t.Errorf("%d is %d, %v", id, got, err)
 		}
 	}

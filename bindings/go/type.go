@@ -5,24 +5,23 @@ type ID uint32
 
 // A Type is a type of BTF (btf.rst section 2.2; section numbers are those of this document): one of
 // the structs Void to Enum64. A Name is UTF-8, and empty if the type has none. A Size is in bytes. A
-// Target is the ID of the type that this one refers to. Types can be compared with ==, where those
-// with items are equal only if they are the same type of the same *BTF.
+// Target is the ID of the type that this one refers to. reflect.DeepEqual compares types; ==
+// panics for those that have members, values, parameters or entries, since these are slices.
 type Type interface {
 	// Kind returns which of the structs the type is.
 	Kind() Kind
-	isType()
 }
 
 // Void is the type with ID 0.
 type Void struct{}
 
-// An Int is an integer: Bits is its number of bits, and Offset is the bit offset at which they start
-// (section 2.2.1).
+// An Int is an integer: Bits is its number of bits, and BitOffset is where they start (section
+// 2.2.1).
 type Int struct {
-	Name         string
-	Size         uint32
-	Encoding     Encoding
-	Offset, Bits uint8
+	Name            string
+	Size            uint32
+	Encoding        Encoding
+	BitOffset, Bits uint8
 }
 
 // A Ptr is a pointer to Target (section 2.2.2).
@@ -39,14 +38,14 @@ type Array struct {
 type Struct struct {
 	Name    string
 	Size    uint32
-	Members Members
+	Members []Member
 }
 
 // A Union is a union with its members (section 2.2.5).
 type Union struct {
 	Name    string
 	Size    uint32
-	Members Members
+	Members []Member
 }
 
 // An Enum is an enum with its 32-bit values (section 2.2.6). Signed is its kind_flag.
@@ -54,7 +53,7 @@ type Enum struct {
 	Name   string
 	Signed bool
 	Size   uint32
-	Values Values
+	Values []EnumValue
 }
 
 // A Fwd is a forward declaration of a union or a struct (section 2.2.7).
@@ -88,7 +87,7 @@ type Func struct {
 // A FuncProto is a function prototype, which returns Target (section 2.2.13).
 type FuncProto struct {
 	Target ID
-	Params Params
+	Params []Param
 }
 
 // A Var is a variable of type Target (section 2.2.14).
@@ -102,7 +101,7 @@ type Var struct {
 type Datasec struct {
 	Name    string
 	Size    uint32
-	Entries Entries
+	Entries []Entry
 }
 
 // A Float is a floating-point number (section 2.2.16).
@@ -135,7 +134,7 @@ type Enum64 struct {
 	Name   string
 	Signed bool
 	Size   uint32
-	Values Values64
+	Values []EnumValue
 }
 
 func (Void) Kind() Kind      { return KindVoid }
@@ -158,24 +157,3 @@ func (Float) Kind() Kind     { return KindFloat }
 func (DeclTag) Kind() Kind   { return KindDeclTag }
 func (TypeTag) Kind() Kind   { return KindTypeTag }
 func (Enum64) Kind() Kind    { return KindEnum64 }
-
-func (Void) isType()      {}
-func (Int) isType()       {}
-func (Ptr) isType()       {}
-func (Array) isType()     {}
-func (Struct) isType()    {}
-func (Union) isType()     {}
-func (Enum) isType()      {}
-func (Fwd) isType()       {}
-func (Typedef) isType()   {}
-func (Volatile) isType()  {}
-func (Const) isType()     {}
-func (Restrict) isType()  {}
-func (Func) isType()      {}
-func (FuncProto) isType() {}
-func (Var) isType()       {}
-func (Datasec) isType()   {}
-func (Float) isType()     {}
-func (DeclTag) isType()   {}
-func (TypeTag) isType()   {}
-func (Enum64) isType()    {}

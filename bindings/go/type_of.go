@@ -5,7 +5,7 @@ import "bpfcanon/internal/capi"
 // checkKinds returns an error for the first record of a kind that this package doesn't know.
 func checkKinds(records []capi.BTFType) error {
 	for i := range records {
-		if kind := records[i].Kind; kind < capi.KindInt || kind > capi.KindEnum64 {
+		if kind := Kind(records[i].Kind); kind < KindInt || kind > KindEnum64 {
 			return &UnknownRecordError{i}
 		}
 	}
@@ -15,19 +15,19 @@ func checkKinds(records []capi.BTFType) error {
 // typeOf returns the type that a decoded record says. Its kind is a known one.
 func (b *BTF) typeOf(r *capi.BTFType) Type {
 	target := ID(r.Target)
-	switch r.Kind {
-	case capi.KindPtr:
+	switch Kind(r.Kind) {
+	case KindPtr:
 		return Ptr{target}
-	case capi.KindArray:
-		return Array{target, ID(r.Index), r.Count}
-	case capi.KindVolatile:
+	case KindArray:
+		return Array{target, ID(r.IndexType), r.Elements}
+	case KindVolatile:
 		return Volatile{target}
-	case capi.KindConst:
+	case KindConst:
 		return Const{target}
-	case capi.KindRestrict:
+	case KindRestrict:
 		return Restrict{target}
-	case capi.KindFuncProto:
-		return FuncProto{target, Params{b.itemsOf(r)}}
+	case KindFuncProto:
+		return FuncProto{target, itemsOf(b, r, paramOf)}
 	}
 	return b.namedOf(r)
 }
@@ -35,36 +35,35 @@ func (b *BTF) typeOf(r *capi.BTFType) Type {
 // namedOf returns the type that the record of a kind with a name says.
 func (b *BTF) namedOf(r *capi.BTFType) Type {
 	name, target, flag, linkage := b.nameOf(r), ID(r.Target), r.Flag == 1, Linkage(r.Linkage)
-	switch r.Kind {
-	case capi.KindInt:
+	switch Kind(r.Kind) {
+	case KindInt:
 		return Int{name, r.Size, Encoding(r.Encoding), r.BitOffset, r.Bits}
-	case capi.KindStruct:
-		return Struct{name, r.Size, Members{b.itemsOf(r)}}
-	case capi.KindUnion:
-		return Union{name, r.Size, Members{b.itemsOf(r)}}
-	case capi.KindEnum:
-		return Enum{name, flag, r.Size, Values{b.itemsOf(r), flag}}
-	case capi.KindFwd:
+	case KindStruct:
+		return Struct{name, r.Size, itemsOf(b, r, memberOf)}
+	case KindUnion:
+		return Union{name, r.Size, itemsOf(b, r, memberOf)}
+	case KindEnum:
+		valueOf := enumValueOf
+		if flag {
+			valueOf = signedValueOf
+		}
+		return Enum{name, flag, r.Size, itemsOf(b, r, valueOf)}
+	case KindFwd:
 		return Fwd{name, flag}
-	case capi.KindTypedef:
+	case KindTypedef:
 		return Typedef{name, target}
-	case capi.KindFunc:
+	case KindFunc:
 		return Func{name, linkage, target}
-	case capi.KindVar:
+	case KindVar:
 		return Var{name, target, linkage}
-	case capi.KindDatasec:
-		return Datasec{name, r.Size, Entries{b.itemsOf(r)}}
-	case capi.KindFloat:
+	case KindDatasec:
+		return Datasec{name, r.Size, itemsOf(b, r, entryOf)}
+	case KindFloat:
 		return Float{name, r.Size}
-	case capi.KindDeclTag:
+	case KindDeclTag:
 		return DeclTag{name, flag, target, int(r.Component)}
-	case capi.KindTypeTag:
+	case KindTypeTag:
 		return TypeTag{name, flag, target}
 	}
-	return Enum64{name, flag, r.Size, Values64{b.itemsOf(r)}}
-}
-
-// itemsOf returns the items of a type.
-func (b *BTF) itemsOf(r *capi.BTFType) items {
-	return items{b, r.First, uint32(r.Items)}
+	return Enum64{name, flag, r.Size, itemsOf(b, r, enumValueOf)}
 }

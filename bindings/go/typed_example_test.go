@@ -19,14 +19,17 @@ func ExampleDecodeBTF() {
 	if err != nil {
 		log.Fatal(err)
 	}
-	for id := bpfcanon.ID(1); int(id) <= types.Len(); id++ {
-		it, ok := types.Type(id).(bpfcanon.Struct)
+	for _, it := range types.Types() {
+		it, ok := it.(bpfcanon.Struct)
 		if !ok {
 			continue
 		}
-		for i := 0; i < it.Members.Len(); i++ {
-			member := it.Members.At(i)
-			fmt.Printf("%s.%s: %v, %d bytes from the start\n", it.Name, member.Name, types.Kind(member.Target), member.BitOffset/8)
+		for _, member := range it.Members {
+			kind, err := types.Kind(member.Target)
+			if err != nil {
+				log.Fatal(err)
+			}
+			fmt.Printf("%s.%s: %v, %d bytes from the start\n", it.Name, member.Name, kind, member.BitOffset/8)
 		}
 	}
 	// Output:
@@ -50,9 +53,13 @@ func ExampleBTF_ByName() {
 		log.Fatal(err)
 	}
 	for _, id := range types.ByName("direction") {
-		if it, ok := types.Type(id).(bpfcanon.Enum); ok {
-			for i := 0; i < it.Values.Len(); i++ {
-				fmt.Println(it.Values.At(i).Name, it.Values.At(i).Value)
+		it, err := types.Type(id)
+		if err != nil {
+			log.Fatal(err)
+		}
+		if it, ok := it.(bpfcanon.Enum); ok {
+			for _, value := range it.Values {
+				fmt.Println(value.Name, value.Value)
 			}
 		}
 	}
@@ -71,18 +78,22 @@ func ExampleBTF_Resolve() {
 	if err != nil {
 		log.Fatal(err)
 	}
-	misses := types.Type(types.ByName("misses")[0]).(bpfcanon.Var)
-	id, err := types.Resolve(misses.Target)
+	misses := types.ByName("misses")[0]
+	it, err := types.Type(misses)
 	if err != nil {
 		log.Fatal(err)
 	}
-	fmt.Println(types.Kind(misses.Target), types.Name(id))
-	// Output: volatile int
+	id, err := types.Resolve(it.(bpfcanon.Var).Target)
+	if err != nil {
+		log.Fatal(err)
+	}
+	fmt.Println(types.Name(id))
+	// Output: int <nil>
 }
 
 // The helper functions that a program calls, and where.
 func ExampleDecodeInsns() {
-	bytes, err := bpfcanon.InsnRead(bpfcanon.Little, []byte("lddw r1, 5000000000\ncall 6\ncall 14\nexit\n"))
+	bytes, err := bpfcanon.ReadInsns(bpfcanon.Little, []byte("lddw r1, 5000000000\ncall 6\ncall 14\nexit\n"))
 	if err != nil {
 		log.Fatal(err)
 	}
@@ -92,7 +103,7 @@ func ExampleDecodeInsns() {
 	}
 	for i := 0; i < program.Len(); i++ {
 		if call, ok := program.At(i).(bpfcanon.CallHelper); ok {
-			fmt.Printf("helper %d at byte %d\n", call.ID, program.Pos(i))
+			fmt.Printf("helper %d at byte %d\n", call.ID, program.Offset(i))
 		}
 	}
 	// Output:
@@ -103,7 +114,7 @@ func ExampleDecodeInsns() {
 // A program that returns 2, for a big-endian target.
 func ExampleEncodeInsns() {
 	program, err := bpfcanon.EncodeInsns(bpfcanon.Big, []bpfcanon.Insn{
-		bpfcanon.Alu{Width: bpfcanon.W64, Op: bpfcanon.AluMov, Dst: 0, Arg: bpfcanon.Imm(2)},
+		bpfcanon.ALU{Width: bpfcanon.W64, Op: bpfcanon.ALUMov, Dst: 0, Arg: bpfcanon.Imm(2)},
 		bpfcanon.Exit{},
 	})
 	if err != nil {
@@ -114,12 +125,12 @@ func ExampleEncodeInsns() {
 }
 
 // There is no register 11.
-func ExampleEncodeError() {
+func ExampleEncodeInsnError() {
 	_, err := bpfcanon.EncodeInsns(bpfcanon.Little, []bpfcanon.Insn{
 		bpfcanon.Exit{},
 		bpfcanon.Load{Size: bpfcanon.SizeW, Dst: 11, Src: 1},
 	})
-	var refused *bpfcanon.EncodeError
+	var refused *bpfcanon.EncodeInsnError
 	if errors.As(err, &refused) {
 		fmt.Println(refused.Index, refused.Insn.(bpfcanon.Load).Dst)
 	}

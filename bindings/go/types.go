@@ -21,7 +21,7 @@ type BTF struct {
 // DecodeBTF decodes the types of BTF. It stores a copy of the input and records of 40 bytes for each
 // type and item; no Type is made before a call asks for it.
 //
-// Errors: a *FaultError with a BTFCause, ErrMemory, an *UnknownRecordError.
+// Errors: a *FaultError with a BTFCause, ErrOutOfMemory, an *UnknownRecordError.
 func DecodeBTF(types []byte) (*BTF, error) {
 	// The names have to stay as they were decoded, so the copy is decoded.
 	file := append([]byte(nil), types...)
@@ -58,12 +58,17 @@ func (b *BTF) Len() int {
 	return len(b.types)
 }
 
-// record returns the record of a type, and nil for void and an ID over Len.
-func (b *BTF) record(id ID) *capi.BTFType {
-	if id == 0 || uint64(id) > uint64(len(b.types)) {
-		return nil
+// record returns the record of a type, which is nil for void.
+//
+// Errors: ErrNoSuchType.
+func (b *BTF) record(id ID) (*capi.BTFType, error) {
+	switch {
+	case id == 0:
+		return nil, nil
+	case uint64(id) > uint64(len(b.types)):
+		return nil, ErrNoSuchType
 	}
-	return &b.types[id-1]
+	return &b.types[id-1], nil
 }
 
 // nameOf returns the name of a record.
@@ -71,32 +76,41 @@ func (b *BTF) nameOf(r *capi.BTFType) string {
 	return b.text[r.Name : r.Name+r.NameLen]
 }
 
-// Name returns the name of a type. It is empty for a type without one, for void, and for an ID over
-// Len. Nothing is allocated.
-func (b *BTF) Name(id ID) string {
-	if r := b.record(id); r != nil {
-		return b.nameOf(r)
+// Name returns the name of a type, which is empty for void and for a type without one. Nothing is
+// allocated.
+//
+// Errors: ErrNoSuchType.
+func (b *BTF) Name(id ID) (string, error) {
+	r, err := b.record(id)
+	if r == nil {
+		return "", err
 	}
-	return ""
+	return b.nameOf(r), nil
 }
 
-// Kind returns the kind of a type. It is KindVoid for an ID over Len too. Nothing is allocated.
-func (b *BTF) Kind(id ID) Kind {
-	if r := b.record(id); r != nil {
-		return Kind(r.Kind)
+// Kind returns the kind of a type. Nothing is allocated.
+//
+// Errors: ErrNoSuchType.
+func (b *BTF) Kind(id ID) (Kind, error) {
+	r, err := b.record(id)
+	if r == nil {
+		return KindVoid, err
 	}
-	return KindVoid
+	return Kind(r.Kind), nil
 }
 
-// Type returns the type with this ID: Void{} for 0, and nil for an ID over Len.
-func (b *BTF) Type(id ID) Type {
-	if id == 0 {
-		return Void{}
+// Type returns the type with this ID, which is Void{} for 0.
+//
+// Errors: ErrNoSuchType.
+func (b *BTF) Type(id ID) (Type, error) {
+	r, err := b.record(id)
+	switch {
+	case err != nil:
+		return nil, err
+	case r == nil:
+		return Void{}, nil
 	}
-	if r := b.record(id); r != nil {
-		return b.typeOf(r)
-	}
-	return nil
+	return b.typeOf(r), nil
 }
 
 // Types returns the types with the IDs 1 to Len, for example to change some of them and encode all.

@@ -34,28 +34,35 @@ var words = []uint32{
 	0, info(bpfcanon.KindFuncProto, 2, 0), 1, 5, 2, 0, 0,
 }
 
+func must[T any](value T, err error) T {
+	if err != nil {
+		panic(err)
+	}
+	return value
+}
+
 func TestTypesByHand(t *testing.T) {
 	for _, order := range []binary.ByteOrder{binary.LittleEndian, binary.BigEndian} {
 		b := decode(t, btf(order, words, ownStrings))
-		if b.Len() != 3 || b.Type(0) != (bpfcanon.Void{}) || b.Kind(0) != bpfcanon.KindVoid || b.Name(0) != "" {
-			t.Errorf("%d types, void %v", b.Len(), b.Type(0))
+		if b.Len() != 3 || must(b.Type(0)) != (bpfcanon.Void{}) || must(b.Kind(0)) != bpfcanon.KindVoid || must(b.Name(0)) != "" {
+			t.Errorf("%d types, void %v", b.Len(), must(b.Type(0)))
 		}
-		if got, want := b.Type(1), (bpfcanon.Int{Name: "int", Size: 4, Encoding: bpfcanon.EncodingSigned, Bits: 32}); got != want {
+		if got, want := must(b.Type(1)), (bpfcanon.Int{Name: "int", Size: 4, Encoding: bpfcanon.EncodingSigned, Bits: 32}); got != want {
 			t.Errorf("%v, want %v", got, want)
 		}
-		it, ok := b.Type(2).(bpfcanon.Struct)
-		if !ok || it.Name != "s" || it.Size != 4 || it.Members.Len() != 1 {
-			t.Fatalf("%v", b.Type(2))
+		it, ok := must(b.Type(2)).(bpfcanon.Struct)
+		if !ok || it.Name != "s" || it.Size != 4 || len(it.Members) != 1 {
+			t.Fatalf("%v", must(b.Type(2)))
 		}
-		if got, want := it.Members.At(0), (bpfcanon.Member{Name: "int", Target: 1, BitOffset: 5, Width: 3}); got != want {
+		if got, want := it.Members[0], (bpfcanon.Member{Name: "int", Target: 1, BitOffset: 5, Width: 3}); got != want {
 			t.Errorf("%v, want %v", got, want)
 		}
-		proto, ok := b.Type(3).(bpfcanon.FuncProto)
-		if !ok || proto.Target != 1 || proto.Params.Len() != 2 {
-			t.Fatalf("%v", b.Type(3))
+		proto, ok := must(b.Type(3)).(bpfcanon.FuncProto)
+		if !ok || proto.Target != 1 || len(proto.Params) != 2 {
+			t.Fatalf("%v", must(b.Type(3)))
 		}
-		if proto.Params.At(0) != (bpfcanon.Param{Name: "s", Target: 2}) || proto.Params.At(1) != (bpfcanon.Param{}) {
-			t.Errorf("%v, %v", proto.Params.At(0), proto.Params.At(1))
+		if proto.Params[0] != (bpfcanon.Param{Name: "s", Target: 2}) || proto.Params[1] != (bpfcanon.Param{}) {
+			t.Errorf("%v, %v", proto.Params[0], proto.Params[1])
 		}
 	}
 }
@@ -63,7 +70,7 @@ func TestTypesByHand(t *testing.T) {
 // The compiled types, whose listing is written by the library.
 func TestCompiledTypesAreDecoded(t *testing.T) {
 	for _, name := range []string{"flow_table.little.btf", "flow_table.big.btf"} {
-		want, err := bpfcanon.BTFShow(load(t, name))
+		want, err := bpfcanon.ShowBTF(load(t, name))
 		wantBytes(t, name, []byte(typeListingOf(decode(t, load(t, name)))), err, want)
 	}
 }
@@ -75,39 +82,30 @@ func TestValuesHaveTheSignOfTheirEnum(t *testing.T) {
 		0, info(bpfcanon.KindEnum64, 1, 1), 8, 1, 0xfffffffe, math.MaxUint32,
 		0, info(bpfcanon.KindEnum64, 1, 0), 8, 1, 1, 0x80000000,
 	}, ownStrings))
-	for id, want := range map[bpfcanon.ID]int64{1: -1, 2: math.MaxUint32} {
-		if got := b.Type(id).(bpfcanon.Enum).Values.At(0); got != (bpfcanon.EnumValue{Name: "int", Value: want}) {
+	for id, want := range map[bpfcanon.ID]uint64{1: math.MaxUint64, 2: math.MaxUint32} {
+		if got := must(b.Type(id)).(bpfcanon.Enum).Values[0]; got != (bpfcanon.EnumValue{Name: "int", Value: want}) {
 			t.Errorf("type %d: %v, want %d", id, got, want)
 		}
 	}
-	signed, unsigned := b.Type(3).(bpfcanon.Enum64), b.Type(4).(bpfcanon.Enum64)
-	if !signed.Signed || int64(signed.Values.At(0).Value) != -2 || unsigned.Signed || unsigned.Values.At(0).Value != 1<<63+1 {
-		t.Errorf("%v, %v", signed.Values.At(0), unsigned.Values.At(0))
+	signed, unsigned := must(b.Type(3)).(bpfcanon.Enum64), must(b.Type(4)).(bpfcanon.Enum64)
+	if !signed.Signed || int64(signed.Values[0].Value) != -2 || unsigned.Signed || unsigned.Values[0].Value != 1<<63+1 {
+		t.Errorf("%v, %v", signed.Values[0], unsigned.Values[0])
 	}
 }
 
 func TestIDsThatNoTypeHas(t *testing.T) {
 	for _, b := range []*bpfcanon.BTF{decode(t, btf(binary.LittleEndian, words, ownStrings)), decode(t, btf(binary.LittleEndian, nil, "\x00"))} {
 		for _, id := range []bpfcanon.ID{bpfcanon.ID(b.Len() + 1), math.MaxInt32, math.MaxInt32 + 1, math.MaxUint32} {
-			_, err := b.Resolve(id)
-			if b.Type(id) != nil || b.Name(id) != "" || b.Kind(id) != bpfcanon.KindVoid || err != bpfcanon.ErrID {
-				t.Errorf("type %d: %v, %q, %v, %v", id, b.Type(id), b.Name(id), b.Kind(id), err)
+			_, ofType := b.Type(id)
+			_, ofName := b.Name(id)
+			_, ofKind := b.Kind(id)
+			_, ofResolve := b.Resolve(id)
+			for _, err := range []error{ofType, ofName, ofKind, ofResolve} {
+				if err != bpfcanon.ErrNoSuchType {
+					t.Errorf("type %d: %v", id, err)
+				}
 			}
 		}
-	}
-}
-
-func TestIndicesThatNoItemHasPanic(t *testing.T) {
-	it := decode(t, btf(binary.LittleEndian, words, ownStrings)).Type(2).(bpfcanon.Struct)
-	for _, i := range []int{-1, 1, 2} {
-		func() {
-			defer func() {
-				if recover() == nil {
-					t.Errorf("there is a member %d", i)
-				}
-			}()
-			it.Members.At(i)
-		}()
 	}
 }
 
@@ -128,32 +126,28 @@ func TestTypesDoNotKeepTheirInput(t *testing.T) {
 	for i := range file {
 		file[i] = 0xff
 	}
-	if b.Name(1) != "int" || b.Type(2).(bpfcanon.Struct).Members.At(0).Name != "int" {
-		t.Errorf("%q", b.Name(1))
+	if must(b.Name(1)) != "int" || must(b.Type(2)).(bpfcanon.Struct).Members[0].Name != "int" {
+		t.Errorf("%q", must(b.Name(1)))
 	}
 }
 
-// Only the value that Type returns is allocated.
+// Only the value that Type returns is allocated, and its members.
 func TestAllocationsOfTypes(t *testing.T) {
 	b := decode(t, load(t, "flow_table.little.btf"))
 	length := 0
 	if count := testing.AllocsPerRun(100, func() {
 		for id := bpfcanon.ID(0); int(id) <= b.Len(); id++ {
 			target, _ := b.Resolve(id)
-			length += len(b.Name(id)) + int(b.Kind(id)) + int(target)
+			length += len(must(b.Name(id))) + int(must(b.Kind(id))) + int(target)
 		}
 	}); count != 0 {
 		t.Errorf("%v allocations for names", count)
 	}
-	it := b.Type(b.ByName("flow")[0]).(bpfcanon.Struct)
-	if count := testing.AllocsPerRun(100, func() {
-		for i := 0; i < it.Members.Len(); i++ {
-			length += len(it.Members.At(i).Name)
-		}
-	}); count != 0 || it.Members.Len() == 0 {
-		t.Errorf("%v allocations for %d members", count, it.Members.Len())
+	flow := b.ByName("flow")[0]
+	if count := testing.AllocsPerRun(100, func() { length += int(must(b.Type(flow)).Kind()) }); count != 2 {
+		t.Errorf("%v allocations for a type with members", count)
 	}
-	if count := testing.AllocsPerRun(100, func() { length += int(b.Type(1).Kind()) }); count > 1 {
+	if count := testing.AllocsPerRun(100, func() { length += int(must(b.Type(1)).Kind()) }); count > 1 {
 		t.Errorf("%v allocations for a type", count)
 	}
 }
@@ -170,7 +164,7 @@ func TestGoroutinesReadTheSameTypes(t *testing.T) {
 				t.Error("the types differ")
 			}
 			for id := bpfcanon.ID(1); int(id) <= b.Len(); id++ {
-				if name := want.Name(id); !reflect.DeepEqual(b.ByName(name), want.ByName(name)) {
+				if name := must(want.Name(id)); !reflect.DeepEqual(b.ByName(name), want.ByName(name)) {
 					t.Errorf("%q: %v", name, b.ByName(name))
 				}
 			}

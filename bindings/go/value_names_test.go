@@ -14,10 +14,10 @@ func TestNamesOfValues(t *testing.T) {
 		want string
 	}{
 		{bpfcanon.Reg(10), "r10"}, {bpfcanon.Imm(-7), "-7"}, {bpfcanon.W32, "w32"}, {bpfcanon.Width(1), "Width(1)"},
-		{bpfcanon.SizeD, "d"}, {bpfcanon.Size(1), "Size(1)"}, {bpfcanon.AluSmod, "smod"}, {bpfcanon.AluOp(8), "AluOp(8)"},
-		{bpfcanon.BranchSle, "sle"}, {bpfcanon.BranchOp(0), "BranchOp(0)"}, {bpfcanon.FetchXor, "fetch_xor"},
+		{bpfcanon.SizeD, "d"}, {bpfcanon.Size(1), "Size(1)"}, {bpfcanon.ALUSmod, "smod"}, {bpfcanon.ALUOp(8), "ALUOp(8)"},
+		{bpfcanon.BranchSle, "sle"}, {bpfcanon.BranchOp(0), "BranchOp(0)"}, {bpfcanon.AtomicFetchXor, "fetch_xor"},
 		{bpfcanon.AtomicOp(2), "AtomicOp(2)"}, {bpfcanon.W32From16, "w32_from16"}, {bpfcanon.MovsxForm(0), "MovsxForm(0)"},
-		{bpfcanon.SwapBytes, "swap"}, {bpfcanon.SwapKind(1), "SwapKind(1)"}, {bpfcanon.B64, "b64"}, {bpfcanon.SwapBits(8), "SwapBits(8)"},
+		{bpfcanon.SwapBytes, "bytes"}, {bpfcanon.SwapKind(1), "SwapKind(1)"}, {bpfcanon.B64, "b64"}, {bpfcanon.SwapBits(8), "SwapBits(8)"},
 		{bpfcanon.FormCallBTF, "call_btf"}, {bpfcanon.Form(20), "Form(20)"}, {bpfcanon.KindTypeTag, "type_tag"},
 		{bpfcanon.Kind(20), "Kind(20)"}, {bpfcanon.EncodingBool, "bool"}, {bpfcanon.Encoding(3), "Encoding(3)"},
 		{bpfcanon.LinkageExtern, "extern"}, {bpfcanon.Linkage(3), "Linkage(3)"},

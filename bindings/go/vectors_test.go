@@ -93,7 +93,7 @@ func fault[C bpfcanon.Cause](t *testing.T, cause func(uint32) C, pos, name strin
 	}
 	for number := uint32(1); number <= 32; number++ {
 		if c := cause(number); c.String() == name {
-			return bpfcanon.FaultError{Cause: c, Pos: at}
+			return bpfcanon.FaultError{Cause: c, Offset: at}
 		}
 	}
 	t.Fatalf("no cause has the name %s", name)
@@ -105,15 +105,15 @@ func lineCause(n uint32) bpfcanon.LineCause { return bpfcanon.LineCause(n) }
 func btfCause(n uint32) bpfcanon.BTFCause   { return bpfcanon.BTFCause(n) }
 
 var brings = map[string]bpfcanon.Groups{
-	"base32": bpfcanon.Base32, "base64": bpfcanon.Base64 | bpfcanon.Base32, "atomic32": bpfcanon.Atomic32,
-	"atomic64": bpfcanon.Atomic64 | bpfcanon.Atomic32, "divmul32": bpfcanon.Divmul32,
-	"divmul64": bpfcanon.Divmul64 | bpfcanon.Divmul32, "packet": bpfcanon.Packet,
+	"base32": bpfcanon.GroupBase32, "base64": bpfcanon.GroupBase64 | bpfcanon.GroupBase32, "atomic32": bpfcanon.GroupAtomic32,
+	"atomic64": bpfcanon.GroupAtomic64 | bpfcanon.GroupAtomic32, "divmul32": bpfcanon.GroupDivmul32,
+	"divmul64": bpfcanon.GroupDivmul64 | bpfcanon.GroupDivmul32, "packet": bpfcanon.GroupPacket,
 }
 
 // The group of an instruction, without those that it includes.
 var groupOf = map[string]bpfcanon.Groups{
-	"base32": bpfcanon.Base32, "base64": bpfcanon.Base64, "atomic32": bpfcanon.Atomic32, "atomic64": bpfcanon.Atomic64,
-	"divmul32": bpfcanon.Divmul32, "divmul64": bpfcanon.Divmul64, "packet": bpfcanon.Packet,
+	"base32": bpfcanon.GroupBase32, "base64": bpfcanon.GroupBase64, "atomic32": bpfcanon.GroupAtomic32, "atomic64": bpfcanon.GroupAtomic64,
+	"divmul32": bpfcanon.GroupDivmul32, "divmul64": bpfcanon.GroupDivmul64, "packet": bpfcanon.GroupPacket,
 }
 
 // Checks that a program in each byte order is decoded to the instruction of a line, and that this is
@@ -126,8 +126,8 @@ func wantDecoded(t *testing.T, line string, order bpfcanon.Order, programs [][]b
 		return
 	}
 	insn := decoded.At(0)
-	if decoded.Pos(0) != 0 || decoded.Group(0) != group || decoded.Form(0) != bpfcanon.FormOf(insn) {
-		t.Errorf("%s: at %d, %v, %v", line, decoded.Pos(0), decoded.Group(0), decoded.Form(0))
+	if decoded.Offset(0) != 0 || decoded.Group(0) != group || decoded.Form(0) != bpfcanon.FormOf(insn) {
+		t.Errorf("%s: at %d, %v, %v", line, decoded.Offset(0), decoded.Group(0), decoded.Form(0))
 	}
 	for _, to := range orders {
 		got, err := bpfcanon.EncodeInsns(to, []bpfcanon.Insn{insn})
@@ -140,17 +140,17 @@ func TestInstructions(t *testing.T) {
 		line, programs := row[0], [][]byte{data(t, row[1]), data(t, row[2])}
 		for _, order := range orders {
 			for _, to := range orders {
-				got, err := bpfcanon.InsnCanon(order, to, programs[order])
+				got, err := bpfcanon.CanonInsns(order, to, programs[order])
 				wantBytes(t, line, got, err, programs[to])
-				if same, err := bpfcanon.InsnSame(order, programs[order], to, programs[to]); !same || err != nil {
+				if same, err := bpfcanon.SameInsns(order, programs[order], to, programs[to]); !same || err != nil {
 					t.Errorf("%s, compared: %v, %v", line, same, err)
 				}
 			}
-			got, err := bpfcanon.InsnShow(order, programs[order])
+			got, err := bpfcanon.ShowInsns(order, programs[order])
 			wantBytes(t, line, got, err, []byte(line+"\n"))
-			got, err = bpfcanon.InsnRead(order, []byte(line))
+			got, err = bpfcanon.ReadInsns(order, []byte(line))
 			wantBytes(t, line, got, err, programs[order])
-			if groups, err := bpfcanon.InsnGroups(order, programs[order]); groups != brings[row[3]] || err != nil {
+			if groups, err := bpfcanon.GroupsOf(order, programs[order]); groups != brings[row[3]] || err != nil {
 				t.Errorf("%s: groups %v, %v", line, groups, err)
 			}
 			wantDecoded(t, line, order, programs, groupOf[row[3]])
@@ -163,19 +163,19 @@ func TestFaultyInstructions(t *testing.T) {
 		want := fault(t, insnCause, row[3], row[4])
 		for _, order := range orders {
 			program := data(t, row[1+order])
-			_, err := bpfcanon.InsnCanon(order, bpfcanon.Little, program)
+			_, err := bpfcanon.CanonInsns(order, bpfcanon.Little, program)
 			wantFault(t, row[0], err, want)
-			_, err = bpfcanon.InsnShow(order, program)
+			_, err = bpfcanon.ShowInsns(order, program)
 			wantFault(t, row[0], err, want)
-			_, err = bpfcanon.InsnGroups(order, program)
+			_, err = bpfcanon.GroupsOf(order, program)
 			wantFault(t, row[0], err, want)
 			_, err = bpfcanon.DecodeInsns(order, program)
 			wantFault(t, row[0], err, want)
-			_, err = bpfcanon.InsnSame(order, program, order, nil)
+			_, err = bpfcanon.SameInsns(order, program, order, nil)
 			wantFault(t, row[0], err, want)
 			second := want
 			second.Second = true
-			_, err = bpfcanon.InsnSame(order, nil, order, program)
+			_, err = bpfcanon.SameInsns(order, nil, order, program)
 			wantFault(t, row[0], err, second)
 		}
 	})
@@ -183,17 +183,17 @@ func TestFaultyInstructions(t *testing.T) {
 
 func TestListings(t *testing.T) {
 	eachVector(t, "listing", func(t *testing.T, row []string) {
-		program, err := bpfcanon.InsnRead(bpfcanon.Little, text(t, row[1]))
+		program, err := bpfcanon.ReadInsns(bpfcanon.Little, text(t, row[1]))
 		if err != nil {
 			t.Errorf("%s: %v", row[0], err)
 		}
-		got, err := bpfcanon.InsnShow(bpfcanon.Little, program)
+		got, err := bpfcanon.ShowInsns(bpfcanon.Little, program)
 		wantBytes(t, row[0], got, err, text(t, row[2]))
 	})
 	eachVector(t, "listing-fault", func(t *testing.T, row []string) {
 		want := fault(t, lineCause, row[2], row[3])
-		want.Line, want.Pos = want.Pos, 0
-		_, err := bpfcanon.InsnRead(bpfcanon.Little, text(t, row[1]))
+		want.Line, want.Offset = want.Offset, 0
+		_, err := bpfcanon.ReadInsns(bpfcanon.Little, text(t, row[1]))
 		wantFault(t, row[0], err, want)
 	})
 }
@@ -203,15 +203,15 @@ func TestTypes(t *testing.T) {
 		canonical := [][]byte{data(t, row[2]), data(t, row[3])}
 		for _, given := range [][]byte{data(t, row[1]), canonical[0], canonical[1]} {
 			for _, to := range orders {
-				got, err := bpfcanon.BTFCanon(to, given)
+				got, err := bpfcanon.CanonBTF(to, given)
 				wantBytes(t, row[0], got, err, canonical[to])
 			}
-			got, err := bpfcanon.BTFShow(given)
+			got, err := bpfcanon.ShowBTF(given)
 			wantBytes(t, row[0], got, err, text(t, row[5]))
-			if count, err := bpfcanon.BTFCheck(given); strconv.Itoa(count) != row[4] || err != nil {
+			if count, err := bpfcanon.CheckBTF(given); strconv.Itoa(count) != row[4] || err != nil {
 				t.Errorf("%s: %d types, %v", row[0], count, err)
 			}
-			if same, err := bpfcanon.BTFSame(given, canonical[0]); !same || err != nil {
+			if same, err := bpfcanon.SameBTF(given, canonical[0]); !same || err != nil {
 				t.Errorf("%s, compared: %v, %v", row[0], same, err)
 			}
 			decoded, err := bpfcanon.DecodeBTF(given)
@@ -233,19 +233,19 @@ func TestFaultyTypes(t *testing.T) {
 	eachVector(t, "btf-fault", func(t *testing.T, row []string) {
 		want := fault(t, btfCause, row[3], row[4])
 		for _, given := range [][]byte{data(t, row[1]), data(t, row[2])} {
-			_, err := bpfcanon.BTFCanon(bpfcanon.Little, given)
+			_, err := bpfcanon.CanonBTF(bpfcanon.Little, given)
 			wantFault(t, row[0], err, want)
-			_, err = bpfcanon.BTFShow(given)
+			_, err = bpfcanon.ShowBTF(given)
 			wantFault(t, row[0], err, want)
-			_, err = bpfcanon.BTFCheck(given)
+			_, err = bpfcanon.CheckBTF(given)
 			wantFault(t, row[0], err, want)
 			_, err = bpfcanon.DecodeBTF(given)
 			wantFault(t, row[0], err, want)
-			_, err = bpfcanon.BTFSame(given, good)
+			_, err = bpfcanon.SameBTF(given, good)
 			wantFault(t, row[0], err, want)
 			second := want
 			second.Second = true
-			_, err = bpfcanon.BTFSame(good, given)
+			_, err = bpfcanon.SameBTF(good, given)
 			wantFault(t, row[0], err, second)
 		}
 	})

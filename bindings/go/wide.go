@@ -1,5 +1,8 @@
 package bpfcanon
 
+// #include <bpfcanon.h>
+import "C"
+
 import "bpfcanon/internal/capi"
 
 // A WideOf is what a wide load loads (RFC 9669 section 5.4): a Number, or an address that is
@@ -34,31 +37,33 @@ type MapIdx struct{ Index int32 }
 type MapValueIdx struct{ Index, Offset int32 }
 
 func (n Number) immediates() (uint8, int32, int32) {
-	return capi.WideNumber, int32(uint32(n)), int32(uint32(n >> 32))
+	return C.BPFCANON_WIDE_NUMBER, int32(uint32(n)), int32(uint32(n >> 32))
 }
-func (m MapFD) immediates() (uint8, int32, int32)      { return capi.WideMapFD, m.FD, 0 }
-func (m MapValueFD) immediates() (uint8, int32, int32) { return capi.WideMapValueFD, m.FD, m.Offset }
-func (v VarAddr) immediates() (uint8, int32, int32)    { return capi.WideVarAddr, v.ID, v.Next }
-func (c CodeAddr) immediates() (uint8, int32, int32)   { return capi.WideCodeAddr, c.Offset, 0 }
-func (m MapIdx) immediates() (uint8, int32, int32)     { return capi.WideMapIdx, m.Index, 0 }
+func (m MapFD) immediates() (uint8, int32, int32) { return C.BPFCANON_WIDE_MAP_FD, m.FD, 0 }
+func (m MapValueFD) immediates() (uint8, int32, int32) {
+	return C.BPFCANON_WIDE_MAP_VALUE_FD, m.FD, m.Offset
+}
+func (v VarAddr) immediates() (uint8, int32, int32)  { return C.BPFCANON_WIDE_VAR_ADDR, v.ID, v.Next }
+func (c CodeAddr) immediates() (uint8, int32, int32) { return C.BPFCANON_WIDE_CODE_ADDR, c.Offset, 0 }
+func (m MapIdx) immediates() (uint8, int32, int32)   { return C.BPFCANON_WIDE_MAP_IDX, m.Index, 0 }
 func (m MapValueIdx) immediates() (uint8, int32, int32) {
-	return capi.WideMapValueIdx, m.Index, m.Offset
+	return C.BPFCANON_WIDE_MAP_VALUE_IDX, m.Index, m.Offset
 }
 
 // wideOf returns what the record of a wide load says.
 func wideOf(r *capi.Insn) WideOf {
 	switch r.Op {
-	case capi.WideMapFD:
+	case C.BPFCANON_WIDE_MAP_FD:
 		return MapFD{r.Imm}
-	case capi.WideMapValueFD:
+	case C.BPFCANON_WIDE_MAP_VALUE_FD:
 		return MapValueFD{r.Imm, r.NextImm}
-	case capi.WideVarAddr:
+	case C.BPFCANON_WIDE_VAR_ADDR:
 		return VarAddr{r.Imm, r.NextImm}
-	case capi.WideCodeAddr:
+	case C.BPFCANON_WIDE_CODE_ADDR:
 		return CodeAddr{r.Imm}
-	case capi.WideMapIdx:
+	case C.BPFCANON_WIDE_MAP_IDX:
 		return MapIdx{r.Imm}
-	case capi.WideMapValueIdx:
+	case C.BPFCANON_WIDE_MAP_VALUE_IDX:
 		return MapValueIdx{r.Imm, r.NextImm}
 	}
 	return Number(uint64(uint32(r.NextImm))<<32 | uint64(uint32(r.Imm)))

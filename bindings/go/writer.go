@@ -34,7 +34,7 @@ func NewInsnWriter(dst io.Writer, order, to Order) *InsnWriter {
 // Write writes the instructions that the bytes of p complete. On a fault, the instructions before it
 // have been written, and the error is a *FaultError with the offset in the stream; Write then
 // returns the number of bytes of p before the faulty instruction. Other errors are those of the
-// underlying writer, ErrMemory, ErrOrder and ErrClosed. Once a call has failed, all further calls
+// underlying writer, ErrOutOfMemory, ErrOrder and ErrClosed. Once a call has failed, all further calls
 // return the same error.
 func (w *InsnWriter) Write(p []byte) (int, error) {
 	taken := 0
@@ -97,12 +97,12 @@ func (w *InsnWriter) errorOf(front capi.Answer) error {
 	err := errorOf(front, insnCause)
 	var fault *FaultError
 	if errors.As(err, &fault) {
-		fault.Pos += w.done
+		fault.Offset += w.done
 	}
 	return err
 }
 
-// Close reports an incomplete instruction at the end: a *FaultError with InsnTruncated. It doesn't
+// Close reports an incomplete instruction at the end: a *FaultError with ErrInsnTruncated. It doesn't
 // close the underlying writer. It returns an earlier error again, and nil if the writer is already
 // closed.
 func (w *InsnWriter) Close() error {
@@ -112,10 +112,10 @@ func (w *InsnWriter) Close() error {
 	if w.err != nil {
 		return w.err
 	}
-	_, err := InsnCanon(w.order, w.to, w.held)
+	_, err := CanonInsns(w.order, w.to, w.held)
 	var fault *FaultError
 	if errors.As(err, &fault) {
-		fault.Pos += w.done
+		fault.Offset += w.done
 	}
 	w.err = err
 	if err == nil {

@@ -63,7 +63,7 @@ func max(a, b int) int {
 func TestAFaultComesAfterTheInstructionsBeforeIt(t *testing.T) {
 	stream := unhex(t, insns[0].big+insns[1].big+"04 01 0000 00000005"+insns[5].big)
 	good := unhex(t, insns[0].little+insns[1].little)
-	want := bpfcanon.FaultError{Cause: bpfcanon.InsnSrc, Pos: 25}
+	want := bpfcanon.FaultError{Cause: bpfcanon.ErrInsnSrc, Offset: 25}
 	for piece := 1; piece <= len(stream); piece++ {
 		var out bytes.Buffer
 		w := bpfcanon.NewInsnWriter(&out, bpfcanon.Big, bpfcanon.Little)
@@ -84,8 +84,8 @@ func TestWriteCountsTheBytesBeforeAFault(t *testing.T) {
 		fault string
 		want  bpfcanon.FaultError
 	}{
-		{"04 01 0000 00000005", bpfcanon.FaultError{Cause: bpfcanon.InsnSrc, Pos: 25}},
-		{"18 10 0000 00000001 01 00 0000 00000000", bpfcanon.FaultError{Cause: bpfcanon.InsnReserved, Pos: 32}},
+		{"04 01 0000 00000005", bpfcanon.FaultError{Cause: bpfcanon.ErrInsnSrc, Offset: 25}},
+		{"18 10 0000 00000001 01 00 0000 00000000", bpfcanon.FaultError{Cause: bpfcanon.ErrInsnReserved, Offset: 32}},
 	} {
 		good := len(unhex(t, insns[0].big+insns[1].big))
 		stream := unhex(t, insns[0].big+insns[1].big+row.fault+insns[5].big)
@@ -152,7 +152,7 @@ func TestAnInstructionThatIsCutIsReportedByClose(t *testing.T) {
 		if err := writeInPieces(w, 3, unhex(t, row.stream)); err != nil {
 			t.Errorf("%s: %v", row.stream, err)
 		}
-		wantFault(t, row.stream, w.Close(), bpfcanon.FaultError{Cause: bpfcanon.InsnTruncated, Pos: row.pos})
+		wantFault(t, row.stream, w.Close(), bpfcanon.FaultError{Cause: bpfcanon.ErrInsnTruncated, Offset: row.pos})
 		if !bytes.Equal(out.Bytes(), unhex(t, insns[5].little)) {
 			t.Errorf("%s: %x", row.stream, out.Bytes())
 		}

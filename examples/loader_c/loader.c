@@ -34,14 +34,14 @@ static int fail(const char *format, ...)
 /* Reads a file up to one byte more than an object file may have, which is then refused as too large. */
 static int read_file(const char *name, struct bytes *out)
 {
-	const size_t room = BPFCANON_OBJECT_MAX + 1;
+	const size_t capacity = BPFCANON_OBJECT_MAX + 1;
 	FILE *file = fopen(name, "rb");
 	int error;
 
 	if (!file)
 		return fail("%s: %s", name, strerror(errno));
-	out->start = malloc(room);
-	out->len = out->start ? fread(out->start, 1, room, file) : 0;
+	out->start = malloc(capacity);
+	out->len = out->start ? fread(out->start, 1, capacity, file) : 0;
 	error = !out->start ? ENOMEM : ferror(file) ? errno : 0;
 	fclose(file);
 	return error ? fail("%s: %s", name, strerror(error)) : 0;
@@ -52,9 +52,9 @@ static int make_canonical(const char *name, const struct bytes *object, struct b
 	bpfcanon_answer answer = bpfcanon_object_canon_new(object->start, object->len, &out->start);
 
 	out->len = answer.written;
-	if (answer.status == BPFCANON_FAULT)
-		return fail("%s: byte %llu: %s", name, (unsigned long long)answer.pos, bpfcanon_object_cause_text(answer.cause));
-	return answer.status == BPFCANON_DONE ? 0 : fail("%s: %s", name, bpfcanon_status_text(answer.status));
+	if (answer.status == BPFCANON_STATUS_FAULT)
+		return fail("%s: byte %llu: %s", name, (unsigned long long)answer.offset, bpfcanon_object_cause_text(answer.cause));
+	return answer.status == BPFCANON_STATUS_DONE ? 0 : fail("%s: %s", name, bpfcanon_status_text(answer.status));
 }
 
 /* Only Ed25519, which has one digest and no parameters that a key or a signature could choose. */

@@ -19,7 +19,7 @@ import (
 
 // verify returns the canonical file of an object, which is signed.
 func verify(key ed25519.PublicKey, signature, object []byte) ([]byte, error) {
-	canonical, err := objects.Canonical(object)
+	canonical, err := objects.Canon(object)
 	if err != nil {
 		return nil, err
 	}

@@ -21,12 +21,12 @@ int main(void)
 	const bpfcanon_btf_item *member;
 
 	bpfcanon_each_type(type, types, answer.types)
-		if (type->kind == BPFCANON_KIND_STRUCT)
+		if (type->kind == BPFCANON_BTF_KIND_STRUCT)
 			bpfcanon_each_item(member, type, items)
 				printf("%s.%s %u %s\n", bpfcanon_btf_name(file, type->name),
 				       bpfcanon_btf_name(file, member->name), member->bit_offset,
 				       name_of(types, member->target));
 	bpfcanon_free(types);
 	bpfcanon_free(items);
-	return answer.status != BPFCANON_DONE;
+	return answer.status != BPFCANON_STATUS_DONE;
 }

@@ -21,13 +21,13 @@ func object() []byte {
 }
 
 // The canonical file of an object file has no debugging information, and is its own canonical file.
-func ExampleCanonical() {
+func ExampleCanon() {
 	data := object()
-	canonical, err := objects.Canonical(data)
+	canonical, err := objects.Canon(data)
 	if err != nil {
 		log.Fatal(err)
 	}
-	again, err := objects.Canonical(canonical)
+	again, err := objects.Canon(canonical)
 	fmt.Println(len(data), len(canonical), bytes.Equal(again, canonical), err)
 	// Output: 2928 856 true <nil>
 }
@@ -47,9 +47,9 @@ func ExampleCheck() {
 	err := objects.Check(object()[:100])
 	var fault *bpfcanon.FaultError
 	if errors.As(err, &fault) {
-		fmt.Println(fault.Pos, fault.Cause)
+		fmt.Println(fault.Offset, fault.Cause)
 	}
-	if errors.Is(err, bpfcanon.ObjectSectionTable) {
+	if errors.Is(err, bpfcanon.ErrObjectSectionTable) {
 		fmt.Println("the file is cut")
 	}
 	// Output:

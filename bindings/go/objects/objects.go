@@ -11,8 +11,8 @@
 // nobody can exchange a file between the check and the load.
 //
 // Errors are a *bpfcanon.FaultError, whose Cause is a bpfcanon.ObjectCause or, for a fault of .BTF by
-// itself, a bpfcanon.BTFCause, and whose Pos counts from the first byte of the file; and
-// bpfcanon.ErrMemory.
+// itself, a bpfcanon.BTFCause, and whose Offset counts from the first byte of the file; and
+// bpfcanon.ErrOutOfMemory.
 package objects
 
 import (
@@ -29,10 +29,10 @@ const MaxSize = capi.ObjectMax
 // KeySize is the length of a key in bytes.
 const KeySize = capi.KeySize
 
-// Canonical returns the canonical file of an object file. It may be longer than that.
+// Canon returns the canonical file of an object file. It may be longer than that.
 //
-// Errors: a *bpfcanon.FaultError with the first fault, bpfcanon.ErrMemory.
-func Canonical(data []byte) ([]byte, error) {
+// Errors: a *bpfcanon.FaultError with the first fault, bpfcanon.ErrOutOfMemory.
+func Canon(data []byte) ([]byte, error) {
 	out := make([]byte, len(data))
 	got := capi.ObjectCanon(data, out)
 	if got.Status == capi.Room {
@@ -47,7 +47,7 @@ func Canonical(data []byte) ([]byte, error) {
 
 // Key returns the SHA-256 of the canonical file of an object file.
 //
-// Errors: a *bpfcanon.FaultError with the first fault, bpfcanon.ErrMemory.
+// Errors: a *bpfcanon.FaultError with the first fault, bpfcanon.ErrOutOfMemory.
 func Key(data []byte) ([KeySize]byte, error) {
 	var key [KeySize]byte
 	got := capi.ObjectKey(data, key[:])
@@ -58,7 +58,7 @@ func Key(data []byte) ([KeySize]byte, error) {
 // are equal.
 //
 // Errors: a *bpfcanon.FaultError with the first fault, whose Second is set if it is in the second
-// file; bpfcanon.ErrMemory.
+// file; bpfcanon.ErrOutOfMemory.
 func Same(first, second []byte) (bool, error) {
 	got := capi.ObjectSame(first, second)
 	return got.Status == capi.Done, errorOf(got)
@@ -66,7 +66,7 @@ func Same(first, second []byte) (bool, error) {
 
 // Check returns nil if an object file has a canonical file. Its instructions aren't checked.
 //
-// Errors: a *bpfcanon.FaultError with the first fault, bpfcanon.ErrMemory.
+// Errors: a *bpfcanon.FaultError with the first fault, bpfcanon.ErrOutOfMemory.
 func Check(data []byte) error {
 	return errorOf(capi.ObjectCheck(data))
 }
@@ -77,16 +77,16 @@ func errorOf(a capi.Answer) error {
 	case capi.Done, capi.Different:
 		return nil
 	case capi.Fault, capi.FaultSecond:
-		return &bpfcanon.FaultError{Cause: causeOf(a.Cause), Pos: a.Pos, Second: a.Status == capi.FaultSecond}
-	case capi.Memory:
-		return bpfcanon.ErrMemory
+		return &bpfcanon.FaultError{Cause: causeOf(a.Cause), Offset: a.Offset, Second: a.Status == capi.FaultSecond}
+	case capi.OutOfMemory:
+		return bpfcanon.ErrOutOfMemory
 	}
 	return fmt.Errorf("bpfcanon: unexpected status %d", a.Status)
 }
 
 // causeOf returns the cause with a number. A fault of .BTF by itself has its number of BTF.
 func causeOf(number uint32) bpfcanon.Cause {
-	if cause := bpfcanon.ObjectCause(number); cause >= bpfcanon.ObjectFileTooLarge {
+	if cause := bpfcanon.ObjectCause(number); cause >= bpfcanon.ErrObjectFileTooLarge {
 		return cause
 	}
 	return bpfcanon.BTFCause(number)

@@ -2,10 +2,10 @@
 
 Instructions and BTF can be encoded in either byte order, and BTF can lay out its strings in any
 way. Two inputs that are accepted hold the same instructions, or the same types in the same order,
-if and only if their canonical bytes are equal. Every other input raises a Fault with the offset and
+if and only if their canonical bytes are equal. Every other input raises a FaultError with the offset and
 the cause of its first fault.
 
-Instructions and types can also be looked at as values: Program and Btf decode them into the frozen
+Instructions and types can also be looked at as values: Program and Btf are sequences of the frozen
 dataclasses of bpfcanon.insn_types and bpfcanon.types, and insn_encode and btf_encode encode these.
 
 The work is done by the C library libbpfcanon, whose core is proved to meet its contracts. The few
@@ -24,9 +24,10 @@ from typing import TYPE_CHECKING
 from . import _library
 from ._library import Buffer
 from .btf import btf_canon, btf_check, btf_same, btf_show
-from .causes import BtfCause, Cause, Group, InsnCause, LineCause, ObjectCause, Order, OtherCause
-from .errors import BpfcanonError, EncodeError, EncodeTypeError, Fault, NoSuchType, OrderError, OutOfMemory, TypeCircle
-from .errors import UnknownCause, UnknownRecord
+from .causes import Cause, OtherCause
+from .errors import BpfcanonError, EncodeBtfError, EncodeInsnError, FaultError, NoSuchTypeError, OrderError, OutOfMemoryError
+from .errors import TypeCycleError, UnknownCauseError, UnknownRecordError
+from .header import BtfCause, Group, InsnCause, LineCause, ObjectCause, Order
 from .insn import Front, insn_canon, insn_front, insn_groups, insn_read, insn_same, insn_show, insn_stream
 
 __version__ = "0.1.0"
@@ -37,23 +38,23 @@ __all__ = [
     "BtfCause",
     "Buffer",
     "Cause",
-    "EncodeError",
-    "EncodeTypeError",
-    "Fault",
+    "EncodeBtfError",
+    "EncodeInsnError",
+    "FaultError",
     "Front",
     "Group",
     "InsnCause",
     "LineCause",
-    "NoSuchType",
+    "NoSuchTypeError",
     "ObjectCause",
     "Order",
     "OrderError",
     "OtherCause",
-    "OutOfMemory",
+    "OutOfMemoryError",
     "Program",
-    "TypeCircle",
-    "UnknownCause",
-    "UnknownRecord",
+    "TypeCycleError",
+    "UnknownCauseError",
+    "UnknownRecordError",
     "btf_canon",
     "btf_check",
     "btf_encode",

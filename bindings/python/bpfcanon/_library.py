@@ -7,6 +7,8 @@ import os
 import pathlib
 from typing import Any, Callable, Union
 
+from .header import Answer, Order, Status
+
 # What calls accept as bytes: see pointer_to.
 Buffer = Union[bytes, bytearray, memoryview, mmap.mmap]
 
@@ -15,51 +17,24 @@ NAME = "libbpfcanon.so.0"
 # them too.
 OLDEST = (0, 1)
 
-# How a call ended (enum bpfcanon_status).
-DONE, DIFFERENT, FAULT, FAULT_SECOND, MEMORY, ROOM, ORDER, ALIGNMENT = range(8)
-
-
-class Answer(ctypes.Structure):
-    """struct bpfcanon_answer."""
-
-    status: int
-    cause: int
-    pos: int
-    line: int
-    read: int
-    written: int
-    needed: int
-    types: int
-    groups: int
-    _fields_ = [
-        ("status", ctypes.c_uint32),
-        ("cause", ctypes.c_uint32),
-        ("pos", ctypes.c_uint64),
-        ("line", ctypes.c_uint64),
-        ("read", ctypes.c_size_t),
-        ("written", ctypes.c_size_t),
-        ("needed", ctypes.c_size_t),
-        ("types", ctypes.c_uint32),
-        ("groups", ctypes.c_uint32),
-    ]
-
-
-# The numbers of byte orders, and one that is none, for which a call returns ORDER.
-ORDERS, NO_ORDER = (0, 1), 2
+# A number that is no byte order, for which a call returns Status.ORDER.
+NO_ORDER = 2
 
 # The arguments of each call, and what C takes for each of them.
 _ORDER = [ctypes.c_uint32]
 _BYTES = [ctypes.c_void_p, ctypes.c_size_t]
 _BLOCK: list[Any] = [ctypes.POINTER(ctypes.c_void_p)]
+_RECORDS, _COUNT = [ctypes.c_void_p], [ctypes.c_size_t]
 _CALLS: dict[str, list[list[Any]]] = {
     "btf_canon": [_ORDER, _BYTES, _BYTES],
     "btf_check": [_BYTES],
     "btf_decode_new": [_BYTES, _BLOCK, _BLOCK],
+    "btf_encode": [_ORDER, _RECORDS, _COUNT, _RECORDS, _COUNT, _BYTES, _BYTES],
     "btf_same": [_BYTES, _BYTES],
     "btf_show": [_BYTES, _BYTES],
     "insn_canon": [_ORDER, _ORDER, _BYTES, _BYTES],
     "insn_decode_new": [_ORDER, _BYTES, _BLOCK],
-    "insn_encode": [_ORDER, _BYTES, _BYTES],
+    "insn_encode": [_ORDER, _RECORDS, _COUNT, _BYTES],
     "insn_front": [_ORDER, _ORDER, _BYTES, _BYTES],
     "insn_groups": [_ORDER, _BYTES],
     "insn_read": [_ORDER, _BYTES, _BYTES],
@@ -143,7 +118,7 @@ def size_of(data: Buffer) -> int:
 
 def number_of(order: object) -> int:
     """Return the number of a byte order as C reads it: ctypes takes a number modulo 2^32, and nothing but numbers."""
-    return order if isinstance(order, int) and order in ORDERS else NO_ORDER
+    return order if isinstance(order, int) and order in tuple(Order) else NO_ORDER
 
 
 def ask(name: str, *arguments: Any) -> Any:
@@ -170,7 +145,7 @@ def write(name: str, capacity: int, *arguments: Any) -> tuple[Any, memoryview]:
     """
     out = bytearray(capacity)
     answer = ask(name, *arguments, out)
-    if answer.status == ROOM:
+    if answer.status == Status.ROOM:
         out = bytearray(answer.needed)
         answer = ask(name, *arguments, out)
     return answer, memoryview(out)[: answer.written]

@@ -2,15 +2,15 @@
 
 from . import _library
 from ._library import Buffer
-from .causes import BtfCause, Order
 from .errors import check
+from .header import BtfCause, Order, Status
 
 
 def btf_canon(types: Buffer, *, to: Order = Order.LITTLE) -> bytes:
     """Return BTF in canonical form, in the byte order `to`.
 
     With `to` little these are its canonical bytes. They are never longer than the input.
-    Raises Fault with a BtfCause, OutOfMemory.
+    Raises FaultError with a BtfCause, OutOfMemoryError.
     """
     answer, out = _library.write("btf_canon", _library.size_of(types), to, types)
     check(answer, BtfCause)
@@ -20,7 +20,7 @@ def btf_canon(types: Buffer, *, to: Order = Order.LITTLE) -> bytes:
 def btf_show(types: Buffer) -> str:
     """Return a listing of the types: one line for each type and each of its items, with a newline.
 
-    docs/FORMATS.md describes the lines. Raises Fault with a BtfCause, OutOfMemory.
+    docs/FORMATS.md describes the lines. Raises FaultError with a BtfCause, OutOfMemoryError.
     """
     # The listing of a kernel's types is about twice as long as they are.
     answer, out = _library.write("btf_show", 3 * _library.size_of(types), types)
@@ -31,7 +31,7 @@ def btf_show(types: Buffer) -> str:
 def btf_check(types: Buffer) -> int:
     """Return the number of types, not counting type 0, void.
 
-    Raises Fault with a BtfCause, OutOfMemory.
+    Raises FaultError with a BtfCause, OutOfMemoryError.
     """
     return int(check(_library.ask("btf_check", types), BtfCause).types)
 
@@ -39,6 +39,6 @@ def btf_check(types: Buffer) -> int:
 def btf_same(first: Buffer, second: Buffer) -> bool:
     """Return whether two BTF inputs, in any byte order, have the same types in the same order.
 
-    Raises Fault with a BtfCause, OutOfMemory.
+    Raises FaultError with a BtfCause, OutOfMemoryError.
     """
-    return bool(check(_library.ask("btf_same", first, second), BtfCause).status == _library.DONE)
+    return bool(check(_library.ask("btf_same", first, second), BtfCause).status == Status.DONE)

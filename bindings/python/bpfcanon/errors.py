@@ -2,8 +2,8 @@
 
 from typing import Any, Optional
 
-from . import _library
 from .causes import Cause, KnownCause, OtherCause, cause_of
+from .header import Status
 
 
 class BpfcanonError(Exception):
@@ -13,28 +13,28 @@ class BpfcanonError(Exception):
     """
 
 
-class Fault(BpfcanonError, ValueError):
+class FaultError(BpfcanonError, ValueError):
     """The first fault of an input.
 
     cause   an InsnCause, a LineCause, a BtfCause or an ObjectCause, or an OtherCause
-    pos     the offset of the fault in bytes; 0 in a listing
+    offset  the offset of the fault in bytes; 0 in a listing
     line    the line of the fault in a listing, from 1; 0 in other inputs
     second  whether the fault is in the second of two inputs and the first is valid
     """
 
-    def __init__(self, cause: Cause, pos: int = 0, line: int = 0, second: bool = False) -> None:
-        super().__init__(cause, pos, line, second)
+    def __init__(self, cause: Cause, offset: int = 0, line: int = 0, second: bool = False) -> None:
+        super().__init__(cause, offset, line, second)
         self.cause = cause
-        self.pos = pos
+        self.offset = offset
         self.line = line
         self.second = second
 
     def __str__(self) -> str:
-        position = f"line {self.line}" if self.line else f"byte {self.pos}"
+        position = f"line {self.line}" if self.line else f"byte {self.offset}"
         return f"{'second input: ' if self.second else ''}{position}: {self.cause.label}: {self.cause.text}"
 
 
-class UnknownCause(Fault):
+class UnknownCauseError(FaultError):
     """The first fault of an input, with a cause that only a newer library has: an OtherCause."""
 
     @property
@@ -43,7 +43,7 @@ class UnknownCause(Fault):
         return self.cause.value
 
 
-class UnknownRecord(BpfcanonError):
+class UnknownRecordError(BpfcanonError):
     """A record with a form, a kind or an operation that only a newer library has.
 
     record  the record, as in bpfcanon.records
@@ -57,7 +57,7 @@ class UnknownRecord(BpfcanonError):
         return f"this version of the package doesn't know {self.record}"
 
 
-class OutOfMemory(BpfcanonError, MemoryError):
+class OutOfMemoryError(BpfcanonError, MemoryError):
     """The library ran out of memory."""
 
 
@@ -65,7 +65,7 @@ class OrderError(BpfcanonError, ValueError):
     """An argument is not a valid byte order."""
 
 
-class NoSuchType(BpfcanonError, KeyError):
+class NoSuchTypeError(BpfcanonError, IndexError):
     """A type ID that a BTF file doesn't have.
 
     id     the ID
@@ -81,7 +81,7 @@ class NoSuchType(BpfcanonError, KeyError):
         return f"there is no type {self.id!r}: the file has {self.count} types"
 
 
-class TypeCircle(BpfcanonError, ValueError):
+class TypeCycleError(BpfcanonError, ValueError):
     """A chain of qualifiers, typedefs and type tags without an end, such as a `const` of itself, which is valid BTF.
 
     id  the ID from which it was followed
@@ -92,10 +92,10 @@ class TypeCircle(BpfcanonError, ValueError):
         self.id = id
 
     def __str__(self) -> str:
-        return f"type {self.id} leads round a circle"
+        return f"type {self.id} leads back to itself"
 
 
-class EncodeError(BpfcanonError, ValueError):
+class EncodeInsnError(BpfcanonError, ValueError):
     """A value that isn't an instruction: a register over 10, an operation of another form, a number that its field can't hold.
 
     index  the index of the value among those that were to be encoded, from 0
@@ -111,7 +111,7 @@ class EncodeError(BpfcanonError, ValueError):
         return f"instruction {self.index} can't be encoded: {self.insn!r}"
 
 
-class EncodeTypeError(BpfcanonError, ValueError):
+class EncodeBtfError(BpfcanonError, ValueError):
     """A value that can't be encoded as a type of BTF.
 
     index  the index of the value among those that were to be encoded, from 0; its ID is 1 more
@@ -133,15 +133,15 @@ class EncodeTypeError(BpfcanonError, ValueError):
 
 def error_of(answer: Any, kind: type[KnownCause]) -> Optional[BpfcanonError]:
     """Return the exception that an answer stands for, or None."""
-    if answer.status in (_library.DONE, _library.DIFFERENT):
+    if answer.status in (Status.DONE, Status.DIFFERENT):
         return None
-    if answer.status in (_library.FAULT, _library.FAULT_SECOND):
+    if answer.status in (Status.FAULT, Status.FAULT_SECOND):
         cause = cause_of(kind, answer.cause)
-        error = UnknownCause if isinstance(cause, OtherCause) else Fault
-        return error(cause, answer.pos, answer.line, answer.status == _library.FAULT_SECOND)
-    if answer.status == _library.MEMORY:
-        return OutOfMemory("out of memory")
-    if answer.status == _library.ORDER:
+        error = UnknownCauseError if isinstance(cause, OtherCause) else FaultError
+        return error(cause, answer.offset, answer.line, answer.status == Status.FAULT_SECOND)
+    if answer.status == Status.OUT_OF_MEMORY:
+        return OutOfMemoryError("out of memory")
+    if answer.status == Status.ORDER:
         return OrderError("no such byte order")
     return BpfcanonError(f"unexpected status {answer.status}")
 

@@ -4,15 +4,15 @@ from typing import Iterable, Iterator, NamedTuple, Optional, Union
 
 from . import _library
 from ._library import Buffer
-from .causes import Group, InsnCause, LineCause, Order
-from .errors import BpfcanonError, Fault, check, error_of
+from .errors import BpfcanonError, FaultError, check, error_of
+from .header import Group, InsnCause, LineCause, Order, Status
 
 
 def insn_canon(program: Buffer, *, order: Order = Order.LITTLE, to: Order = Order.LITTLE) -> bytes:
     """Convert a program from the byte order `order` to the byte order `to`.
 
     With `to` little the result is its canonical bytes. It is as long as the program.
-    Raises Fault with an InsnCause, OutOfMemory.
+    Raises FaultError with an InsnCause, OutOfMemoryError.
     """
     answer, out = _library.write("insn_canon", _library.size_of(program), order, to, program)
     check(answer, InsnCause)
@@ -22,7 +22,7 @@ def insn_canon(program: Buffer, *, order: Order = Order.LITTLE, to: Order = Orde
 def insn_show(program: Buffer, *, order: Order = Order.LITTLE) -> str:
     """Return the listing of a program: one line for each instruction, with a newline.
 
-    docs/FORMATS.md describes the lines. Raises Fault with an InsnCause, OutOfMemory.
+    docs/FORMATS.md describes the lines. Raises FaultError with an InsnCause, OutOfMemoryError.
     """
     # The longest line is 4 times as long as its instruction.
     answer, out = _library.write("insn_show", 4 * _library.size_of(program), order, program)
@@ -33,8 +33,8 @@ def insn_show(program: Buffer, *, order: Order = Order.LITTLE) -> str:
 def insn_read(listing: Union[str, Buffer], *, to: Order = Order.LITTLE) -> bytes:
     """Return the instructions of a listing, in the byte order `to`.
 
-    Comments, blank lines and hexadecimal numbers are allowed. Raises Fault with a LineCause and the
-    line, OutOfMemory.
+    Comments, blank lines and hexadecimal numbers are allowed. Raises FaultError with a LineCause and the
+    line, OutOfMemoryError.
     """
     text = listing.encode() if isinstance(listing, str) else listing
     # Most lines are longer than their instruction. "exit" with its newline is not: 5 bytes for 8.
@@ -46,7 +46,7 @@ def insn_read(listing: Union[str, Buffer], *, to: Order = Order.LITTLE) -> bytes
 def insn_groups(program: Buffer, *, order: Order = Order.LITTLE) -> Group:
     """Return the conformance groups that a program needs, and the groups that these include.
 
-    Raises Fault with an InsnCause.
+    Raises FaultError with an InsnCause.
     """
     return Group(check(_library.ask("insn_groups", order, program), InsnCause).groups)
 
@@ -56,10 +56,10 @@ def insn_same(
 ) -> bool:
     """Return whether two programs, each in its own byte order, have the same instructions.
 
-    Raises Fault with an InsnCause.
+    Raises FaultError with an InsnCause.
     """
     answer = _library.ask("insn_same", first_order, first, second_order, second)
-    return bool(check(answer, InsnCause).status == _library.DONE)
+    return bool(check(answer, InsnCause).status == Status.DONE)
 
 
 class Front(NamedTuple):
@@ -67,7 +67,7 @@ class Front(NamedTuple):
 
     output  the instructions, in the byte order `to`
     read    how many bytes of the input they are
-    error   why the call stopped there: a Fault, which remains whatever bytes follow, OutOfMemory or
+    error   why the call stopped there: a FaultError, which remains whatever bytes follow, OutOfMemoryError or
             OrderError; None if fewer than 16 bytes are left, which may begin an instruction
     """
 
@@ -90,7 +90,7 @@ def insn_stream(pieces: Iterable[Buffer], *, order: Order = Order.LITTLE, to: Or
 
     Yields the instructions that each piece completes, and holds fewer than 16 bytes between pieces.
     A fault is raised after the instructions before it, with its offset in the stream.
-    Raises Fault with an InsnCause, OutOfMemory, and TypeError if a piece isn't a buffer. Put a single buffer into a list:
+    Raises FaultError with an InsnCause, OutOfMemoryError, and TypeError if a piece isn't a buffer. Put a single buffer into a list:
     iterating over the buffer itself yields integers.
     """
     held, done = b"", 0
@@ -110,4 +110,4 @@ def insn_stream(pieces: Iterable[Buffer], *, order: Order = Order.LITTLE, to: Or
 
 def moved(error: BpfcanonError, offset: int) -> BpfcanonError:
     """Return the error with its offset counted from the start of the stream."""
-    return type(error)(error.cause, offset + error.pos) if isinstance(error, Fault) else error
+    return type(error)(error.cause, offset + error.offset) if isinstance(error, FaultError) else error

@@ -10,9 +10,9 @@ import enum
 from typing import Any, Callable
 
 from . import insn_types as insn
+from .header import INSN, Form, InsnRecord, WideKind
 from .insn_records import HALVES, NUMBER
 from .insn_types import Imm, Reg, Width
-from .records import INSN, InsnRecord
 
 BLANK = InsnRecord(*[0] * len(InsnRecord._fields))
 Fields = dict[str, Any]
@@ -34,38 +34,38 @@ def operand(arg: object) -> Fields:
 
 def number(it: insn.Number) -> Fields:
     imm, next_imm = HALVES.unpack(NUMBER.pack(it.value))
-    return {"op": 0, "imm": imm, "next_imm": next_imm}
+    return {"op": WideKind.NUMBER, "imm": imm, "next_imm": next_imm}
 
 
-# By the class of what a wide load loads. `op` is of enum bpfcanon_wide.
+# By the class of what a wide load loads.
 BY_WIDE: dict[type, Callable[[Any], Fields]] = {
     insn.Number: number,
-    insn.MapFd: lambda it: {"op": 1, "imm": it.fd},
-    insn.MapValueFd: lambda it: {"op": 2, "imm": it.fd, "next_imm": it.offset},
-    insn.VarAddr: lambda it: {"op": 3, "imm": it.id, "next_imm": it.next_imm},
-    insn.CodeAddr: lambda it: {"op": 4, "imm": it.imm},
-    insn.MapIdx: lambda it: {"op": 5, "imm": it.index},
-    insn.MapValueIdx: lambda it: {"op": 6, "imm": it.index, "next_imm": it.offset},
+    insn.MapFd: lambda it: {"op": WideKind.MAP_FD, "imm": it.fd},
+    insn.MapValueFd: lambda it: {"op": WideKind.MAP_VALUE_FD, "imm": it.fd, "next_imm": it.offset},
+    insn.VarAddr: lambda it: {"op": WideKind.VAR_ADDR, "imm": it.id, "next_imm": it.next_imm},
+    insn.CodeAddr: lambda it: {"op": WideKind.CODE_ADDR, "imm": it.imm},
+    insn.MapIdx: lambda it: {"op": WideKind.MAP_IDX, "imm": it.index},
+    insn.MapValueIdx: lambda it: {"op": WideKind.MAP_VALUE_IDX, "imm": it.index, "next_imm": it.offset},
 }
 
 
 def alu(it: insn.Alu) -> Fields:
-    return {"form": 1, "bits": value_of(Width, it.width), "op": value_of(insn.AluOp, it.op), "dst": it.dst, **operand(it.arg)}
+    return {"form": Form.ALU, "bits": value_of(Width, it.width), "op": value_of(insn.AluOp, it.op), "dst": it.dst, **operand(it.arg)}
 
 
 def movsx(it: insn.Movsx) -> Fields:
     bits, from_bits = value_of(insn.MovsxForm, it.form)
-    return {"form": 2, "bits": bits, "from_bits": from_bits, "dst": it.dst, "src": it.src}
+    return {"form": Form.MOVSX, "bits": bits, "from_bits": from_bits, "dst": it.dst, "src": it.src}
 
 
 def branch(it: insn.Branch) -> Fields:
-    fields = {"form": 7, "bits": value_of(Width, it.width), "op": value_of(insn.BranchOp, it.op), "dst": it.dst, "off": it.off}
+    fields = {"form": Form.BRANCH, "bits": value_of(Width, it.width), "op": value_of(insn.BranchOp, it.op), "dst": it.dst, "off": it.off}
     return {**fields, **operand(it.arg)}
 
 
 def atomic(it: insn.Atomic) -> Fields:
     op = value_of(insn.AtomicOp, it.op)
-    return {"form": 16, "bits": value_of(Width, it.width), "op": op, "dst": it.dst, "src": it.src, "off": it.off}
+    return {"form": Form.ATOMIC, "bits": value_of(Width, it.width), "op": op, "dst": it.dst, "src": it.src, "off": it.off}
 
 
 def load(form: int, size: type[enum.Enum]) -> Callable[[Any], Fields]:
@@ -73,27 +73,27 @@ def load(form: int, size: type[enum.Enum]) -> Callable[[Any], Fields]:
     return lambda it: {"form": form, "bits": value_of(size, it.size), "dst": it.dst, "src": it.src, "off": it.off}
 
 
-# By the class of an instruction. `form` is of enum bpfcanon_form.
+# By the class of an instruction.
 BY_CLASS: dict[type, Callable[[Any], Fields]] = {
     insn.Alu: alu,
     insn.Movsx: movsx,
-    insn.Neg: lambda it: {"form": 3, "bits": value_of(Width, it.width), "dst": it.dst},
-    insn.Swap: lambda it: {"form": 4, "op": value_of(insn.SwapKind, it.kind), "bits": value_of(insn.SwapBits, it.bits), "dst": it.dst},
-    insn.Jump: lambda it: {"form": 5, "off": it.off},
-    insn.JumpLong: lambda it: {"form": 6, "imm": it.imm},
+    insn.Neg: lambda it: {"form": Form.NEG, "bits": value_of(Width, it.width), "dst": it.dst},
+    insn.Swap: lambda it: {"form": Form.SWAP, "op": value_of(insn.SwapKind, it.kind), "bits": value_of(insn.SwapBits, it.bits), "dst": it.dst},
+    insn.Jump: lambda it: {"form": Form.JUMP, "off": it.off},
+    insn.JumpLong: lambda it: {"form": Form.JUMP_LONG, "imm": it.imm},
     insn.Branch: branch,
-    insn.CallHelper: lambda it: {"form": 8, "imm": it.id},
-    insn.CallLocal: lambda it: {"form": 9, "imm": it.imm},
-    insn.CallBtf: lambda it: {"form": 10, "imm": it.id, "off": it.off},
-    insn.Exit: lambda it: {"form": 11},
-    insn.Load: load(12, insn.Size),
-    insn.LoadSigned: load(13, insn.SmallSize),
-    insn.StoreImm: lambda it: {"form": 14, "bits": value_of(insn.Size, it.size), "dst": it.dst, "off": it.off, "imm": it.imm},
-    insn.StoreReg: load(15, insn.Size),
+    insn.CallHelper: lambda it: {"form": Form.CALL_HELPER, "imm": it.id},
+    insn.CallLocal: lambda it: {"form": Form.CALL_LOCAL, "imm": it.imm},
+    insn.CallBtf: lambda it: {"form": Form.CALL_BTF, "imm": it.id, "off": it.off},
+    insn.Exit: lambda it: {"form": Form.EXIT},
+    insn.Load: load(Form.LOAD, insn.Size),
+    insn.LoadSigned: load(Form.LOAD_SIGNED, insn.SmallSize),
+    insn.StoreImm: lambda it: {"form": Form.STORE_IMM, "bits": value_of(insn.Size, it.size), "dst": it.dst, "off": it.off, "imm": it.imm},
+    insn.StoreReg: load(Form.STORE_REG, insn.Size),
     insn.Atomic: atomic,
-    insn.Wide: lambda it: {"form": 17, "bits": 64, "dst": it.dst, **BY_WIDE[type(it.what)](it.what)},
-    insn.PacketAbs: lambda it: {"form": 18, "bits": value_of(insn.SmallSize, it.size), "imm": it.imm},
-    insn.PacketInd: lambda it: {"form": 19, "bits": value_of(insn.SmallSize, it.size), "src": it.src, "imm": it.imm},
+    insn.Wide: lambda it: {"form": Form.WIDE, "bits": 64, "dst": it.dst, **BY_WIDE[type(it.what)](it.what)},
+    insn.PacketAbs: lambda it: {"form": Form.PACKET_ABS, "bits": value_of(insn.SmallSize, it.size), "imm": it.imm},
+    insn.PacketInd: lambda it: {"form": Form.PACKET_IND, "bits": value_of(insn.SmallSize, it.size), "src": it.src, "imm": it.imm},
 }
 
 

@@ -10,6 +10,11 @@ import enum
 from dataclasses import dataclass
 from typing import Union
 
+from .header import AluOp as AluOp
+from .header import AtomicOp as AtomicOp
+from .header import BranchOp as BranchOp
+from .header import SwapKind as SwapKind
+
 
 class Reg(enum.IntEnum):
     """A register, r0 to r10 (section 3.1)."""
@@ -51,41 +56,6 @@ class SmallSize(enum.Enum):
     W = 32
 
 
-class AluOp(enum.Enum):
-    """An arithmetic operation (section 4.1), by its code. Signed division and remainder share a code, and have 16 more here."""
-
-    ADD = 0x00
-    SUB = 0x01
-    MUL = 0x02
-    DIV = 0x03
-    SDIV = 0x13
-    OR = 0x04
-    AND = 0x05
-    LSH = 0x06
-    RSH = 0x07
-    MOD = 0x09
-    SMOD = 0x19
-    XOR = 0x0A
-    MOV = 0x0B
-    ARSH = 0x0C
-
-
-class BranchOp(enum.Enum):
-    """The comparison of a branch (section 4.3), by its code. SGT, SGE, SLT and SLE are signed; SET is `dst & arg` isn't 0."""
-
-    EQ = 0x1
-    GT = 0x2
-    GE = 0x3
-    SET = 0x4
-    NE = 0x5
-    SGT = 0x6
-    SGE = 0x7
-    LT = 0xA
-    LE = 0xB
-    SLT = 0xC
-    SLE = 0xD
-
-
 class MovsxForm(enum.Enum):
     """The widths of a sign-extending move (section 4.1): the bits of the destination, and how many low bits of the source it reads."""
 
@@ -96,38 +66,12 @@ class MovsxForm(enum.Enum):
     W64_FROM32 = (64, 32)
 
 
-class SwapKind(enum.Enum):
-    """How a byte swap converts its operand (section 4.2), by its opcode."""
-
-    LE = 0xD4  # between the byte order of the host and little-endian
-    BE = 0xDC  # between the byte order of the host and big-endian
-    SWAP = 0xD7  # unconditionally
-
-
 class SwapBits(enum.Enum):
     """The width in bits of a byte swap (section 4.2)."""
 
     B16 = 16
     B32 = 32
     B64 = 64
-
-
-class AtomicOp(enum.Enum):
-    """An atomic operation on memory (section 5.3), by its immediate.
-
-    With FETCH_ and for XCHG, src receives the old value. CMPXCHG stores src if the old value equals r0, which receives the old one.
-    """
-
-    ADD = 0x00
-    OR = 0x40
-    AND = 0x50
-    XOR = 0xA0
-    FETCH_ADD = 0x01
-    FETCH_OR = 0x41
-    FETCH_AND = 0x51
-    FETCH_XOR = 0xA1
-    XCHG = 0xE1
-    CMPXCHG = 0xF1
 
 
 @dataclass(frozen=True)

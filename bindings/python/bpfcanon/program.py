@@ -7,14 +7,13 @@ import struct
 from itertools import takewhile
 from typing import Iterable, Iterator, Sequence, Union, overload
 
-from . import _library
 from ._library import Buffer
-from .causes import Group, InsnCause, Order
-from .errors import EncodeError, check
+from .errors import EncodeInsnError, check
+from .header import INSN, Group, InsnCause, InsnRecord, Order, Status
 from .insn_encoding import record_of
 from .insn_records import insn_of
 from .insn_types import Insn
-from .records import INSN, InsnRecord, decode_insns, encode_insns
+from .records import decode_insns, encode_insns
 
 
 class Program(Sequence[Insn]):
@@ -26,7 +25,7 @@ class Program(Sequence[Insn]):
     def __init__(self, program: Buffer, *, order: Order = Order.LITTLE) -> None:
         """Decode a program in the byte order `order`.
 
-        No later change of the buffer has an effect. Raises Fault with an InsnCause, OutOfMemory.
+        No later change of the buffer has an effect. Raises FaultError with an InsnCause, OutOfMemoryError.
         """
         self.records = decode_insns(program, order)
 
@@ -56,7 +55,7 @@ class Program(Sequence[Insn]):
 
     def offset(self, index: int) -> int:
         """Return the offset of an instruction in the program, in bytes. Raises IndexError."""
-        return self.record(index).pos
+        return self.record(index).offset
 
     def group(self, index: int) -> Group:
         """Return the conformance group of an instruction, without the groups that it includes. Raises IndexError."""
@@ -65,13 +64,13 @@ class Program(Sequence[Insn]):
     def with_offsets(self) -> Iterator[tuple[int, Insn]]:
         """Yield each instruction after its offset in the program, in bytes."""
         records = (InsnRecord._make(it) for it in INSN.iter_unpack(self.records))
-        return ((it.pos, insn_of(it)) for it in records)
+        return ((it.offset, insn_of(it)) for it in records)
 
 
 def insns(program: Buffer, *, order: Order = Order.LITTLE) -> Iterator[tuple[int, Insn]]:
     """Decode a program, and yield each instruction after its offset in bytes.
 
-    The whole program is decoded before the first one. Raises Fault with an InsnCause, OutOfMemory.
+    The whole program is decoded before the first one. Raises FaultError with an InsnCause, OutOfMemoryError.
     """
     return Program(program, order=order).with_offsets()
 
@@ -79,18 +78,18 @@ def insns(program: Buffer, *, order: Order = Order.LITTLE) -> Iterator[tuple[int
 def insn_encode(values: Iterable[Insn], *, to: Order = Order.LITTLE) -> bytes:
     """Return instructions as bytes in the byte order `to`; little-endian is canonical.
 
-    Raises EncodeError for the first value that isn't an instruction, OrderError.
+    Raises EncodeInsnError for the first value that isn't an instruction, OrderError.
     """
     given = list(values)
     # The records before the first value that has none: the library may refuse one of them.
     records = list(takewhile(bool, map(packed, given)))
     answer, out = encode_insns(b"".join(records), to)
-    is_fault = answer.status == _library.FAULT
+    is_fault = answer.status == Status.FAULT
     if not is_fault:
         check(answer, InsnCause)
-    index = answer.pos if is_fault else len(records)
+    index = answer.offset if is_fault else len(records)
     if index < len(given):
-        raise EncodeError(index, given[index])
+        raise EncodeInsnError(index, given[index])
     return bytes(out)
 
 

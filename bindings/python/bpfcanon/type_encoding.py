@@ -1,63 +1,112 @@
-"""Writes types and their items as BTF.
+"""Makes records of types and their items, which the library encodes.
 
-It isn't canonical: the names are in the order in which they are found. The library makes its canonical form, and decides what is
-valid. Here a value is refused that is of another type than its field, or that its field can't hold.
+The library decides what is valid. Here a value is refused that is of another type than its field, or that no field of a record can
+hold; the library then gets a record that it refuses.
 """
 
 from __future__ import annotations
 
 import struct
-from bisect import bisect_right
-from typing import Any, Callable, Iterable, Sequence, TypeVar
+from typing import Any, Callable, Iterable, Optional, Sequence, TypeVar
 
 from . import types as btf
-from .btf import btf_canon
-from .causes import BtfCause, Order
-from .errors import EncodeTypeError, Fault
+from .causes import cause_of
+from .errors import EncodeBtfError, check
+from .header import ITEM, TYPE, BtfCause, Encoding, ItemKind, Kind, Linkage, Order, Status
 from .insn_encoding import value_of
-from .types import Encoding, Entry, EnumValue, Item, Linkage, Member, Param, Type, Value64
+from .records import encode_types
+from .types import Entry, EnumValue, Member, Param, Type
 
-T = TypeVar("T", bound=Item)
-
-# The magic, the version and flags, hdr_len, and the offset and length of both sections (btf.rst section 2).
-HEADER = struct.Struct("<HBBIIIII")
-MAX_TYPES = 32 << 20
-MAX_STRINGS = 16 << 20
-
-# The fields that each record has: name_off, vlen, an unused byte, the kind with kind_flag, and the size or type (section 2.2).
-HEAD = struct.Struct("<IHxBI")
-# The bits, offset and encoding of an INT (section 2.2.1).
-INT = struct.Struct("<BxBB")
-WORD = struct.Struct("<I")
-PAIR = struct.Struct("<II")
-TRIPLE = struct.Struct("<III")
-# The values of enums, unsigned and signed, after the name.
-VALUES = struct.Struct("<II"), struct.Struct("<Ii")
-VALUES64 = struct.Struct("<IQ"), struct.Struct("<Iq")
+T = TypeVar("T")
+MOST_ITEMS = 0xFFFF
+# Numbers, since a member of an enum takes longer to find.
+MEMBER, PARAM, ENTRY = int(ItemKind.MEMBER), int(ItemKind.PARAM), int(ItemKind.ENTRY)
+pack_item, pack_type = ITEM.pack, TYPE.pack
+# Where a name is in the strings, and its length in bytes. If that is 0, the library doesn't read where it is.
+Name = tuple[int, int]
+NO_NAME = (0, 0)
+# Where the items of a type are, and how many.
+Range = tuple[int, int]
+NO_ITEMS = (0, 0)
 
 
-class Strings:
-    """The string section, to which `at` appends new names."""
+def record(
+    kind: int, name: Name = NO_NAME, size: int = 0, target: int = 0, items: Range = NO_ITEMS, flag: int = 0, linkage: int = 0,
+    integer: tuple[int, int, int] = (0, 0, 0), array: tuple[int, int] = (0, 0), component: int = 0,
+) -> bytes:  # fmt: skip
+    """Return the record of a type. Raises struct.error for a number that its field can't hold."""
+    encoding, bit_offset, bits = integer
+    return pack_type(kind, flag, encoding, linkage, bit_offset, bits, items[1], *name, size, target, *array, component, items[0])
+
+
+# A PTR has no size.
+REFUSED = record(Kind.PTR, size=1)
+
+
+class Names(dict[str, Name]):
+    """Where each name is in the strings, to which one that is new is added."""
 
     def __init__(self) -> None:
-        self.section = bytearray(1)
-        self._offsets = {"": 0}
+        super().__init__({"": NO_NAME})
+        self.strings = bytearray()
 
-    def at(self, name: str) -> int:
-        """Return the offset of a name. Raises TypeError, and ValueError for a name with a NUL."""
-        found = self._offsets.get(name)
-        if found is not None:
-            return found
+    def __missing__(self, name: str) -> Name:
         if not isinstance(name, str):
             raise TypeError(f"the name {name!r} isn't a str")
-        if "\0" in name:
-            raise ValueError(f"{name!r} contains a NUL")
-        offset = len(self.section)
-        if offset <= MAX_STRINGS:  # or else the type is refused
-            self._offsets[name] = offset
-            # The library refuses a surrogate, which isn't UTF-8.
-            self.section += name.encode("utf-8", "surrogatepass") + b"\0"
-        return offset
+        # The library refuses a surrogate, which isn't UTF-8.
+        encoded = name.encode("utf-8", "surrogatepass")
+        found = self[name] = len(self.strings), len(encoded)
+        self.strings += encoded + b"\0"
+        return found
+
+
+class Records:
+    """The records of types and of their items, with their names."""
+
+    def __init__(self) -> None:
+        self.types, self.items, self.names = bytearray(), bytearray(), Names()
+
+    def add(self, it: Type) -> None:
+        """Add the record of a type, or one that the library refuses."""
+        try:
+            self.types += BY_CLASS[type(it)](self, it)
+        except (KeyError, TypeError, ValueError, struct.error):
+            self.types += REFUSED
+
+    def _add(self, records: list[bytes]) -> Range:
+        """Add records of items. Raises ValueError."""
+        first = len(self.items) // ITEM.size
+        if len(records) > MOST_ITEMS:
+            raise ValueError("a type has at most 65,535 items")
+        self.items += b"".join(records)
+        return first, len(records)
+
+    def members(self, given: Sequence[Member]) -> Range:
+        names, found = self.names, all_of(Member, given)
+        return self._add([pack_item(*names[it.name], it.target, it.bit_offset, it.width, 0, 0, MEMBER, 0) for it in found])
+
+    def values(self, given: Sequence[EnumValue], kind: int, bits: int, is_signed: bool) -> Range:
+        names, found, mask = self.names, all_of(EnumValue, given), (1 << bits) - 1
+        least = -(1 << bits - 1) if is_signed else 0
+        if not all(0 <= it.value - least <= mask for it in found):
+            raise ValueError(f"a value doesn't fit into {bits} bits")
+        return self._add([pack_item(*names[it.name], 0, 0, 0, 0, 0, kind, it.value & mask) for it in found])
+
+    def params(self, given: Sequence[Param]) -> Range:
+        names = self.names
+        return self._add([pack_item(*names[it.name], it.target, 0, 0, 0, 0, PARAM, 0) for it in all_of(Param, given)])
+
+    def entries(self, given: Sequence[Entry]) -> Range:
+        return self._add([pack_item(0, 0, it.target, 0, 0, it.offset, it.size, ENTRY, 0) for it in all_of(Entry, given)])
+
+
+def all_of(kind: type[T], given: Sequence[T]) -> tuple[T, ...]:
+    """Return items. Raises TypeError if one is of another class."""
+    found = tuple(given)
+    for it in found:
+        if type(it) is not kind:
+            raise TypeError(f"{it!r} isn't of the class {kind.__name__}")
+    return found
 
 
 def flag_of(flag: object) -> int:
@@ -67,131 +116,64 @@ def flag_of(flag: object) -> int:
     return int(flag)
 
 
-def head(kind: int, name: int, third: int, vlen: int = 0, flag: int = 0) -> bytes:
-    """Return the fields that each record has. `third` is the size or type."""
-    return HEAD.pack(name, vlen, kind | flag << 7, third)
+def component_of(index: Optional[int]) -> int:
+    """Return the component of a DECL_TAG. Raises ValueError."""
+    if index is not None and index < 0:
+        raise ValueError("a component is the index of a member or parameter")
+    return -1 if index is None else index
 
 
-def items(kind: type[T], given: Sequence[T]) -> tuple[T, ...]:
-    """Return the items of a type. Raises TypeError for an item of another class."""
-    found = tuple(given)
-    for it in found:
-        if type(it) is not kind:
-            raise TypeError(f"{it!r} isn't of the class {kind.__name__}")
-    return found
+def int_(to: Records, it: btf.Int) -> bytes:
+    return record(Kind.INT, to.names[it.name], it.size, integer=(value_of(Encoding, it.encoding), it.bit_offset, it.bits))
 
 
-def bit_field(it: Member) -> int:
-    """Return the offset field of a member of a record with bit-fields: the width is above the bit offset (section 2.2.4)."""
-    if it.bit_offset >> 24:
-        raise ValueError(f"{it!r} doesn't fit into its field")
-    return it.bit_offset | it.width << 24
+def composite(kind: int) -> Callable[[Records, Any], bytes]:
+    return lambda to, it: record(kind, to.names[it.name], it.size, items=to.members(it.members))
 
 
-def composite(kind: int, names: Strings, it: Any) -> bytes:
-    """Return the record of a STRUCT or UNION, whose kind_flag says that it has bit-fields."""
-    members = items(Member, it.members)
-    flag = any(member.width for member in members)
-    start = head(kind, names.at(it.name), it.size, len(members), int(flag))
+def enum(kind: int, item: int, bits: int) -> Callable[[Records, Any], bytes]:
+    def packed(to: Records, it: Any) -> bytes:
+        flag = flag_of(it.signed)
+        return record(kind, to.names[it.name], it.size, items=to.values(it.values, item, bits, it.signed), flag=flag)
 
-    def packed(member: Member) -> bytes:
-        # Without bit-fields each width is 0, or of another type, for which `|` raises TypeError.
-        return TRIPLE.pack(names.at(member.name), member.target, bit_field(member) if flag else member.bit_offset | member.width)
-
-    return start + b"".join(map(packed, members))
+    return packed
 
 
-def enum(names: Strings, it: btf.Enum) -> bytes:
-    values, layout = items(EnumValue, it.values), VALUES[flag_of(it.signed)]
-    start = head(6, names.at(it.name), it.size, len(values), it.signed)
-    return start + b"".join(layout.pack(names.at(value.name), value.value) for value in values)
+def reference(kind: int) -> Callable[[Records, Any], bytes]:
+    return lambda to, it: record(kind, NO_NAME, 0, it.target)
 
 
-def enum64(names: Strings, it: btf.Enum64) -> bytes:
-    values, layout = items(Value64, it.values), VALUES64[flag_of(it.signed)]
-    start = head(19, names.at(it.name), it.size, len(values), it.signed)
-    return start + b"".join(layout.pack(names.at(value.name), value.value) for value in values)
+def linked(kind: int) -> Callable[[Records, Any], bytes]:
+    return lambda to, it: record(kind, to.names[it.name], 0, it.target, NO_ITEMS, 0, value_of(Linkage, it.linkage))
 
 
-def func_proto(names: Strings, it: btf.FuncProto) -> bytes:
-    params = items(Param, it.params)
-    start = head(13, 0, it.target, len(params))
-    return start + b"".join(PAIR.pack(names.at(param.name), param.target) for param in params)
+def decl_tag(to: Records, it: btf.DeclTag) -> bytes:
+    component = component_of(it.component)
+    return record(Kind.DECL_TAG, to.names[it.name], target=it.target, flag=flag_of(it.flag), component=component)
 
 
-def datasec(names: Strings, it: btf.Datasec) -> bytes:
-    entries = items(Entry, it.entries)
-    start = head(15, names.at(it.name), it.size, len(entries))
-    return start + b"".join(TRIPLE.pack(entry.target, entry.offset, entry.size) for entry in entries)
-
-
-def decl_tag(names: Strings, it: btf.DeclTag) -> bytes:
-    if it.component == 0xFFFFFFFF:
-        raise ValueError("this number stands for the complete type")
-    component = 0xFFFFFFFF if it.component is None else it.component
-    return head(17, names.at(it.name), it.target, 0, flag_of(it.flag)) + WORD.pack(component)
-
-
-def int_(names: Strings, it: btf.Int) -> bytes:
-    return head(1, names.at(it.name), it.size) + INT.pack(it.bits, it.offset, value_of(Encoding, it.encoding))
-
-
-def var(names: Strings, it: btf.Var) -> bytes:
-    return head(14, names.at(it.name), it.target) + WORD.pack(value_of(Linkage, it.linkage))
-
-
-# By the class of a type. The kinds are those of btf.rst.
-BY_CLASS: dict[type, Callable[[Strings, Any], bytes]] = {
+# By the class of a type.
+BY_CLASS: dict[type, Callable[[Records, Any], bytes]] = {
     btf.Int: int_,
-    btf.Ptr: lambda names, it: head(2, 0, it.target),
-    btf.Array: lambda names, it: head(3, 0, 0) + TRIPLE.pack(it.target, it.index, it.count),
-    btf.Struct: lambda names, it: composite(4, names, it),
-    btf.Union: lambda names, it: composite(5, names, it),
-    btf.Enum: enum,
-    btf.Fwd: lambda names, it: head(7, names.at(it.name), 0, 0, flag_of(it.is_union)),
-    btf.Typedef: lambda names, it: head(8, names.at(it.name), it.target),
-    btf.Volatile: lambda names, it: head(9, 0, it.target),
-    btf.Const: lambda names, it: head(10, 0, it.target),
-    btf.Restrict: lambda names, it: head(11, 0, it.target),
-    btf.Func: lambda names, it: head(12, names.at(it.name), it.target, value_of(Linkage, it.linkage)),
-    btf.FuncProto: func_proto,
-    btf.Var: var,
-    btf.Datasec: datasec,
-    btf.Float: lambda names, it: head(16, names.at(it.name), it.size),
+    btf.Ptr: reference(Kind.PTR),
+    btf.Array: lambda to, it: record(Kind.ARRAY, target=it.target, array=(it.index, it.count)),
+    btf.Struct: composite(Kind.STRUCT),
+    btf.Union: composite(Kind.UNION),
+    btf.Enum: enum(Kind.ENUM, ItemKind.ENUM_VALUE, 32),
+    btf.Fwd: lambda to, it: record(Kind.FWD, to.names[it.name], flag=flag_of(it.is_union)),
+    btf.Typedef: lambda to, it: record(Kind.TYPEDEF, to.names[it.name], target=it.target),
+    btf.Volatile: reference(Kind.VOLATILE),
+    btf.Const: reference(Kind.CONST),
+    btf.Restrict: reference(Kind.RESTRICT),
+    btf.Func: linked(Kind.FUNC),
+    btf.FuncProto: lambda to, it: record(Kind.FUNC_PROTO, NO_NAME, 0, it.target, to.params(it.params)),
+    btf.Var: linked(Kind.VAR),
+    btf.Datasec: lambda to, it: record(Kind.DATASEC, to.names[it.name], it.size, items=to.entries(it.entries)),
+    btf.Float: lambda to, it: record(Kind.FLOAT, to.names[it.name], it.size),
     btf.DeclTag: decl_tag,
-    btf.TypeTag: lambda names, it: head(18, names.at(it.name), it.target, 0, flag_of(it.flag)),
-    btf.Enum64: enum64,
+    btf.TypeTag: lambda to, it: record(Kind.TYPE_TAG, to.names[it.name], target=it.target, flag=flag_of(it.flag)),
+    btf.Enum64: enum(Kind.ENUM64, ItemKind.ENUM64_VALUE, 64),
 }
-
-
-class Writer:
-    """BTF of the types that were written."""
-
-    def __init__(self) -> None:
-        self._records = bytearray()
-        self._strings = Strings()
-        self._starts: list[int] = []
-
-    def write(self, index: int, it: Type) -> None:
-        """Append the record of a type. Raises EncodeTypeError if it has none, or if a section gets too long."""
-        self._starts.append(len(self._records))
-        try:
-            self._records += BY_CLASS[type(it)](self._strings, it)
-        except (KeyError, TypeError, ValueError, struct.error):
-            raise EncodeTypeError(index, it, None) from None
-        if len(self._records) > MAX_TYPES:
-            raise EncodeTypeError(index, it, BtfCause.TYPE_LENGTH)
-        if len(self._strings.section) > MAX_STRINGS:
-            raise EncodeTypeError(index, it, BtfCause.STRING_LENGTH)
-
-    def file(self) -> bytes:
-        records, strings = len(self._records), len(self._strings.section)
-        header = HEADER.pack(0xEB9F, 1, 0, HEADER.size, 0, records, records, strings)
-        return b"".join((header, self._records, self._strings.section))
-
-    def index_at(self, pos: int) -> int:
-        """Return the index of the type whose record contains an offset of the file."""
-        return bisect_right(self._starts, pos - HEADER.size) - 1
 
 
 def btf_encode(types: Iterable[Type], *, to: Order = Order.LITTLE) -> bytes:
@@ -199,15 +181,14 @@ def btf_encode(types: Iterable[Type], *, to: Order = Order.LITTLE) -> bytes:
 
     The first type has the ID 1, and types refer to each other by their IDs. Members, values, parameters and entries may be lists or
     tuples. The names, each counted once and with a NUL, are at most 16 MiB long, and the records of the types at most 32 MiB.
-    Raises EncodeTypeError for the first value that no BTF holds or that exceeds a limit, or else for the first with a fault;
-    OutOfMemory, OrderError.
+    Raises EncodeBtfError for a value that can't be encoded: the limits are checked first, then the rules of BTF, and then whether BTF
+    can hold the values. OutOfMemoryError, OrderError.
     """
-    given = list(types)
-    writer = Writer()
-    for index, it in enumerate(given):
-        writer.write(index, it)
-    try:
-        return btf_canon(writer.file(), to=to)
-    except Fault as fault:
-        index = writer.index_at(fault.pos)
-        raise EncodeTypeError(index, given[index], fault.cause) from None
+    given, records = list(types), Records()
+    for it in given:
+        records.add(it)
+    answer, out = encode_types(records.types, records.items, records.names.strings, to)
+    if answer.status == Status.FAULT and answer.offset < len(given):
+        raise EncodeBtfError(answer.offset, given[answer.offset], cause_of(BtfCause, answer.cause) if answer.cause else None)
+    check(answer, BtfCause)
+    return bytes(out)

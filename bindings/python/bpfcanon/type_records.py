@@ -6,9 +6,9 @@ import operator
 from typing import Callable, Iterator, Sequence, TypeVar, Union, overload
 
 from . import types as btf
-from .errors import UnknownRecord
-from .records import ITEM, ItemRecord, TypeRecord
-from .types import Encoding, Entry, EnumValue, Item, Linkage, Member, Param, Type, Value64
+from .errors import UnknownRecordError
+from .header import ITEM, Encoding, ItemRecord, Kind, Linkage, TypeRecord
+from .types import Entry, EnumValue, Item, Member, Param, Type
 
 T = TypeVar("T", bound=Item)
 
@@ -77,12 +77,8 @@ def signed_enum_value(names: bytes, it: ItemRecord) -> EnumValue:
     return EnumValue(name_of(names, it), signed(it.value, 32))
 
 
-def value64(names: bytes, it: ItemRecord) -> Value64:
-    return Value64(name_of(names, it), it.value)
-
-
-def signed_value64(names: bytes, it: ItemRecord) -> Value64:
-    return Value64(name_of(names, it), signed(it.value, 64))
+def signed_enum64_value(names: bytes, it: ItemRecord) -> EnumValue:
+    return EnumValue(name_of(names, it), signed(it.value, 64))
 
 
 def param(names: bytes, it: ItemRecord) -> Param:
@@ -110,39 +106,39 @@ class File:
     def values(self, it: TypeRecord) -> Items[EnumValue]:
         return self.items_of(it, signed_enum_value if it.flag else enum_value)
 
-    def values64(self, it: TypeRecord) -> Items[Value64]:
-        return self.items_of(it, signed_value64 if it.flag else value64)
+    def values64(self, it: TypeRecord) -> Items[EnumValue]:
+        return self.items_of(it, signed_enum64_value if it.flag else enum_value)
 
 
-# By enum bpfcanon_kind, which are the numbers of btf.rst.
+# By the kind of a type.
 BY_KIND: dict[int, Callable[[File, TypeRecord], Type]] = {
-    1: lambda file, it: btf.Int(file.name(it), it.size, Encoding(it.encoding), it.bit_offset, it.bits),
-    2: lambda file, it: btf.Ptr(it.target),
-    3: lambda file, it: btf.Array(it.target, it.index_type, it.elements),
-    4: lambda file, it: btf.Struct(file.name(it), it.size, file.items_of(it, member)),
-    5: lambda file, it: btf.Union(file.name(it), it.size, file.items_of(it, member)),
-    6: lambda file, it: btf.Enum(file.name(it), bool(it.flag), it.size, file.values(it)),
-    7: lambda file, it: btf.Fwd(file.name(it), bool(it.flag)),
-    8: lambda file, it: btf.Typedef(file.name(it), it.target),
-    9: lambda file, it: btf.Volatile(it.target),
-    10: lambda file, it: btf.Const(it.target),
-    11: lambda file, it: btf.Restrict(it.target),
-    12: lambda file, it: btf.Func(file.name(it), Linkage(it.linkage), it.target),
-    13: lambda file, it: btf.FuncProto(it.target, file.items_of(it, param)),
-    14: lambda file, it: btf.Var(file.name(it), it.target, Linkage(it.linkage)),
-    15: lambda file, it: btf.Datasec(file.name(it), it.size, file.items_of(it, entry)),
-    16: lambda file, it: btf.Float(file.name(it), it.size),
-    17: lambda file, it: btf.DeclTag(file.name(it), bool(it.flag), it.target, None if it.component < 0 else it.component),
-    18: lambda file, it: btf.TypeTag(file.name(it), bool(it.flag), it.target),
-    19: lambda file, it: btf.Enum64(file.name(it), bool(it.flag), it.size, file.values64(it)),
+    Kind.INT: lambda file, it: btf.Int(file.name(it), it.size, Encoding(it.encoding), it.bit_offset, it.bits),
+    Kind.PTR: lambda file, it: btf.Ptr(it.target),
+    Kind.ARRAY: lambda file, it: btf.Array(it.target, it.index_type, it.elements),
+    Kind.STRUCT: lambda file, it: btf.Struct(file.name(it), it.size, file.items_of(it, member)),
+    Kind.UNION: lambda file, it: btf.Union(file.name(it), it.size, file.items_of(it, member)),
+    Kind.ENUM: lambda file, it: btf.Enum(file.name(it), bool(it.flag), it.size, file.values(it)),
+    Kind.FWD: lambda file, it: btf.Fwd(file.name(it), bool(it.flag)),
+    Kind.TYPEDEF: lambda file, it: btf.Typedef(file.name(it), it.target),
+    Kind.VOLATILE: lambda file, it: btf.Volatile(it.target),
+    Kind.CONST: lambda file, it: btf.Const(it.target),
+    Kind.RESTRICT: lambda file, it: btf.Restrict(it.target),
+    Kind.FUNC: lambda file, it: btf.Func(file.name(it), Linkage(it.linkage), it.target),
+    Kind.FUNC_PROTO: lambda file, it: btf.FuncProto(it.target, file.items_of(it, param)),
+    Kind.VAR: lambda file, it: btf.Var(file.name(it), it.target, Linkage(it.linkage)),
+    Kind.DATASEC: lambda file, it: btf.Datasec(file.name(it), it.size, file.items_of(it, entry)),
+    Kind.FLOAT: lambda file, it: btf.Float(file.name(it), it.size),
+    Kind.DECL_TAG: lambda file, it: btf.DeclTag(file.name(it), bool(it.flag), it.target, None if it.component < 0 else it.component),
+    Kind.TYPE_TAG: lambda file, it: btf.TypeTag(file.name(it), bool(it.flag), it.target),
+    Kind.ENUM64: lambda file, it: btf.Enum64(file.name(it), bool(it.flag), it.size, file.values64(it)),
 }
-# The kinds that `resolve` follows: typedef, volatile, const, restrict, type_tag.
-FOLLOWED = frozenset({8, 9, 10, 11, 18})
+# The kinds that `resolve` follows.
+FOLLOWED = frozenset({Kind.TYPEDEF, Kind.VOLATILE, Kind.CONST, Kind.RESTRICT, Kind.TYPE_TAG})
 
 
 def type_of(file: File, record: TypeRecord) -> Type:
-    """Return the type that a record of the library says. Raises UnknownRecord."""
+    """Return the type that a record of the library says. Raises UnknownRecordError."""
     try:
         return BY_KIND[record.kind](file, record)
     except (LookupError, ValueError):
-        raise UnknownRecord(record) from None
+        raise UnknownRecordError(record) from None

@@ -7,27 +7,12 @@ asked for. Types are equal if all of their fields and items are; IDs are compare
 
 from __future__ import annotations
 
-import enum
 import typing
 from dataclasses import dataclass
 from typing import Optional, Sequence
 
-
-class Encoding(enum.Enum):
-    """The encoding of an INT (btf.rst section 2.2.1)."""
-
-    PLAIN = 0
-    SIGNED = 1
-    CHAR = 2
-    BOOL = 4
-
-
-class Linkage(enum.Enum):
-    """The linkage of a function or a variable (btf.rst sections 2.2.12 and 2.2.14)."""
-
-    STATIC = 0
-    GLOBAL = 1
-    EXTERN = 2
+from .header import Encoding as Encoding
+from .header import Linkage as Linkage
 
 
 @dataclass(frozen=True)
@@ -46,15 +31,7 @@ class Member:
 
 @dataclass(frozen=True)
 class EnumValue:
-    """A value of an ENUM, read from 32 bits as the type's `signed` says (btf.rst section 2.2.6)."""
-
-    name: str
-    value: int
-
-
-@dataclass(frozen=True)
-class Value64:
-    """A value of an ENUM64, read from 64 bits as the type's `signed` says (btf.rst section 2.2.19)."""
+    """A value of an ENUM or ENUM64, read as the type's `signed` says (btf.rst sections 2.2.6 and 2.2.19)."""
 
     name: str
     value: int
@@ -77,7 +54,7 @@ class Entry:
     size: int
 
 
-Item = typing.Union[Member, EnumValue, Value64, Param, Entry]
+Item = typing.Union[Member, EnumValue, Param, Entry]
 
 
 class HasItems:
@@ -96,12 +73,12 @@ class Void:
 
 @dataclass(frozen=True)
 class Int:
-    """An integer (btf.rst section 2.2.1): `bits` is its number of bits, and `offset` is the bit offset at which they start."""
+    """An integer (btf.rst section 2.2.1): `bits` is its number of bits, and `bit_offset` is where they start."""
 
     name: str
     size: int
     encoding: Encoding
-    offset: int
+    bit_offset: int
     bits: int
 
 
@@ -258,7 +235,7 @@ class Enum64(HasItems):
     name: str
     signed: bool
     size: int
-    values: Sequence[Value64]
+    values: Sequence[EnumValue]
 
 
 Type = typing.Union[

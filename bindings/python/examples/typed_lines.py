@@ -50,12 +50,12 @@ def is_field(value: object) -> bool:
 
 
 def insn_lines(file: bytes, order: Order) -> Iterator[str]:
-    for pos, insn in insns(file, order=order):
-        yield f"{pos} {line_of(insn)}"
+    for offset, insn in insns(file, order=order):
+        yield f"{offset} {line_of(insn)}"
 
 
 def btf_lines(file: bytes) -> Iterator[str]:
-    for id, type in Btf(file).types.items():
+    for id, type in enumerate(Btf(file)[1:], 1):
         yield f"{id} {line_of(type)}"
         items = (getattr(type, it.name) for it in fields(type))
         yield from (f"  {line_of(item)}" for values in items if not is_field(values) for item in values)

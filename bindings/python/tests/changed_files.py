@@ -13,7 +13,7 @@ import sys
 from typing import Callable, Iterator, Optional
 
 import bpfcanon
-from bpfcanon import Btf, Fault, Order, Program, TypeCircle
+from bpfcanon import Btf, FaultError, Order, Program, TypeCycleError
 
 from .samples import load
 from .test_vectors import ORDERS, data, rows
@@ -36,7 +36,7 @@ def fault_of(call: Callable[[], object]) -> Optional[tuple[object, ...]]:
     """The arguments of the fault that a call raises."""
     try:
         call()
-    except Fault as fault:
+    except FaultError as fault:
         return fault.args
     return None
 
@@ -48,13 +48,13 @@ def walk_types(file: bytes) -> bool:
     if fault:
         return False
     btf = Btf(file)
-    listing = "".join(f"{line}\n" for id, it in btf.types.items() for line in type_lines(id, it))
+    listing = "".join(f"{line}\n" for id, it in enumerate(btf[1:], 1) for line in type_lines(id, it))
     assert listing == bpfcanon.btf_show(file), file.hex()
-    assert bpfcanon.btf_encode(btf.types.values()) == bpfcanon.btf_canon(file), file.hex()
-    for id in btf.types:
-        with contextlib.suppress(TypeCircle):
+    assert bpfcanon.btf_encode(btf[1:]) == bpfcanon.btf_canon(file), file.hex()
+    for id in range(1, len(btf)):
+        with contextlib.suppress(TypeCycleError):
             end = btf.resolve(id)
-            assert end == 0 or end in btf.types, file.hex()
+            assert end in range(len(btf)), file.hex()
         assert not btf.name(id) or id in btf.by_name(btf.name(id)), file.hex()
     return True
 

@@ -5,7 +5,8 @@ from typing import Any
 from unittest import mock
 
 import bpfcanon
-from bpfcanon import Fault, InsnCause, Order, OrderError, OutOfMemory, _library
+from bpfcanon import FaultError, InsnCause, Order, OrderError, OutOfMemoryError, _library
+from bpfcanon.header import Answer, Status
 
 from .samples import INSNS, load, unhex
 
@@ -53,7 +54,7 @@ class Streams(unittest.TestCase):
         good = unhex(INSNS[0][1] + INSNS[1][1])
         for size in range(1, len(stream) + 1):
             pieces, output = [stream[k : k + size] for k in range(0, len(stream), size)], b""
-            with self.assertRaises(Fault) as raised:
+            with self.assertRaises(FaultError) as raised:
                 for canonical in bpfcanon.insn_stream(pieces, order=Order.BIG):
                     output += canonical
             self.assertEqual((raised.exception.args, output), ((InsnCause.SRC, 25, 0, False), good))
@@ -63,7 +64,7 @@ class Streams(unittest.TestCase):
         # Register 10 is the destination; in little-endian order it would be the source.
         ends += [("18 a0 0000 55667788", 16)]
         for end, pos in ends:
-            with self.assertRaises(Fault) as raised:
+            with self.assertRaises(FaultError) as raised:
                 list(bpfcanon.insn_stream([EXIT, unhex(end)], order=Order.BIG))
             self.assertEqual(raised.exception.args, (InsnCause.TRUNCATED, pos, 0, False))
 
@@ -77,12 +78,12 @@ class Streams(unittest.TestCase):
                 next(bpfcanon.insn_stream(pieces, to=number))
 
     def test_memory_may_run_out_in_each_piece_and_at_the_end(self) -> None:
-        good = _library.Answer(_library.DONE, read=8), memoryview(EXIT)
+        good = Answer(Status.DONE, read=8), memoryview(EXIT)
         for count in range(4):
-            answers = [good] * count + [(_library.Answer(_library.MEMORY), memoryview(b""))]
+            answers = [good] * count + [(Answer(Status.OUT_OF_MEMORY), memoryview(b""))]
             with mock.patch.object(_library, "write", side_effect=answers):
                 stream, output = bpfcanon.insn_stream([EXIT] * 3), b""
-                with self.assertRaises(OutOfMemory):
+                with self.assertRaises(OutOfMemoryError):
                     for canonical in stream:
                         output += canonical
             self.assertEqual(output, EXIT * count)
@@ -90,7 +91,7 @@ class Streams(unittest.TestCase):
     def test_the_start_of_a_piece_has_its_fault(self) -> None:
         front = bpfcanon.insn_front(EXIT + unhex("04 10 0000 05000000"))
         self.assertEqual((front.output, front.read), (EXIT, 8))
-        self.assertIsInstance(front.error, Fault)
+        self.assertIsInstance(front.error, FaultError)
         self.assertEqual(front.error and front.error.args, (InsnCause.SRC, 9, 0, False))
         self.assertEqual(bpfcanon.insn_front(EXIT + b"\x18"), (EXIT, 8, None))
 

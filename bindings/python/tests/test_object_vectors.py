@@ -4,7 +4,7 @@ import hashlib
 import unittest
 from typing import Callable
 
-from bpfcanon import BtfCause, Cause, Fault, ObjectCause, objects
+from bpfcanon import BtfCause, Cause, FaultError, ObjectCause, objects
 
 from .samples import TESTDATA
 
@@ -32,10 +32,10 @@ class ObjectVectors(unittest.TestCase):
         for row in rows("object"):
             file, data, (key,) = row
             with self.subTest(file=file):
-                canonical = objects.canonical(data)
+                canonical = objects.canon(data)
                 self.assertEqual(hashlib.sha256(canonical).hexdigest(), key)
                 self.assertEqual(objects.key(data).hex(), key)
-                self.assertEqual(objects.canonical(canonical), canonical)
+                self.assertEqual(objects.canon(canonical), canonical)
                 objects.check(data)
                 self.assertTrue(objects.same(data, canonical))
                 self.assertEqual(objects.same(before[1], bytearray(data)), before[2] == [key])
@@ -46,13 +46,13 @@ class ObjectVectors(unittest.TestCase):
         for file, content, (length, pos, cause) in rows("object-fault"):
             data = content.ljust(int(length.replace("-", "0")), b"\0")
             with self.subTest(file=file):
-                calls: list[Callable[[bytes], object]] = [objects.canonical, objects.key, objects.check, lambda it: objects.same(it, good)]
+                calls: list[Callable[[bytes], object]] = [objects.canon, objects.key, objects.check, lambda it: objects.same(it, good)]
                 for call in calls:
                     self.fault(call, data, cause_of(cause), int(pos), 0, False)
                 self.fault(lambda it: objects.same(good, it), data, cause_of(cause), int(pos), 0, True)
 
     def fault(self, call: Callable[[bytes], object], data: bytes, *args: object) -> None:
-        with self.assertRaises(Fault) as raised:
+        with self.assertRaises(FaultError) as raised:
             call(data)
         self.assertEqual(raised.exception.args, args)
 

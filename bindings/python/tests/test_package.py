@@ -17,8 +17,9 @@ from typing import Any, Optional
 from unittest import mock
 
 import bpfcanon
-from bpfcanon import BtfCause, Fault, InsnCause, LineCause, ObjectCause, Order, OrderError, OutOfMemory, _library, objects
+from bpfcanon import BtfCause, FaultError, InsnCause, LineCause, ObjectCause, Order, OrderError, OutOfMemoryError, _library, objects
 from bpfcanon.errors import error_of
+from bpfcanon.header import Answer, Status
 
 from .samples import INSNS, TESTDATA, TOP, load, unhex
 
@@ -47,7 +48,7 @@ class Inputs(unittest.TestCase):
         program = bytearray(unhex("ff 00 0000 00000000"))
         try:
             bpfcanon.insn_canon(program)
-        except Fault as fault:
+        except FaultError as fault:
             program += b"more"
             self.assertEqual(fault.cause, InsnCause.OPCODE)
         self.assertEqual(len(program), 12)
@@ -76,65 +77,62 @@ class Inputs(unittest.TestCase):
 class Faults(unittest.TestCase):
     def test_a_fault_is_a_sentence(self) -> None:
         for fault, text in [
-            (Fault(InsnCause.OPCODE, 9), "byte 9: Opcode: no instruction has this opcode"),
-            (Fault(LineCause.WORD, line=2), "line 2: Word: no instruction has this mnemonic"),
-            (Fault(BtfCause.VERSION, 2, second=True), "second input: byte 2: Version: the version is not 1"),
+            (FaultError(InsnCause.OPCODE, 9), "byte 9: Opcode: no instruction has this opcode"),
+            (FaultError(LineCause.WORD, line=2), "line 2: Word: no instruction has this mnemonic"),
+            (FaultError(BtfCause.VERSION, 2, second=True), "second input: byte 2: Version: the version is not 1"),
         ]:
             self.assertEqual(str(fault), text)
 
     def test_a_fault_can_be_pickled(self) -> None:
-        fault = pickle.loads(pickle.dumps(Fault(BtfCause.VLEN, 40, second=True)))
-        self.assertEqual((fault.cause, fault.pos, fault.line, fault.second), (BtfCause.VLEN, 40, 0, True))
+        fault = pickle.loads(pickle.dumps(FaultError(BtfCause.VLEN, 40, second=True)))
+        self.assertEqual((fault.cause, fault.offset, fault.line, fault.second), (BtfCause.VLEN, 40, 0, True))
 
     def test_exceptions_have_the_built_in_bases(self) -> None:
-        for error, base in [(Fault, ValueError), (OrderError, ValueError), (OutOfMemory, MemoryError)]:
+        for error, base in [(FaultError, ValueError), (OrderError, ValueError), (OutOfMemoryError, MemoryError)]:
             self.assertTrue(issubclass(error, base) and issubclass(error, bpfcanon.BpfcanonError), error)
 
     def test_causes_of_different_inputs_are_different(self) -> None:
         causes: list[object] = [InsnCause(2), LineCause(2), BtfCause(2), 2]
         self.assertEqual(len(set(causes)), 4)
-        self.assertNotEqual(Fault(InsnCause.OPCODE).cause, BtfCause.MAGIC)
+        self.assertNotEqual(FaultError(InsnCause.OPCODE).cause, BtfCause.MAGIC)
 
     def test_a_number_that_is_no_cause_has_no_name(self) -> None:
         self.assertEqual([_library.string("line_cause_name", number) for number in (0, 5)], ["", ""])
 
     def test_statuses_become_exceptions(self) -> None:
-        for status, error in [(_library.DONE, None), (_library.DIFFERENT, None), (_library.MEMORY, OutOfMemory)]:
-            raised = error_of(_library.Answer(status), InsnCause)
+        for status, error in [(Status.DONE, None), (Status.DIFFERENT, None), (Status.OUT_OF_MEMORY, OutOfMemoryError)]:
+            raised = error_of(Answer(status), InsnCause)
             self.assertEqual(type(raised), error or type(None))
-        self.assertIsNotNone(error_of(_library.Answer(99), InsnCause))
+        self.assertIsNotNone(error_of(Answer(99), InsnCause))
 
     def test_a_cause_of_a_newer_library_is_a_fault(self) -> None:
-        error = error_of(_library.Answer(_library.FAULT, cause=99, pos=8), InsnCause)
+        error = error_of(Answer(Status.FAULT, cause=99, offset=8), InsnCause)
         text = "byte 8: InsnCause(99): a cause that this version of the package doesn't know"
-        self.assertEqual((isinstance(error, Fault), str(error)), (True, text))
+        self.assertEqual((isinstance(error, FaultError), str(error)), (True, text))
         with mock.patch.object(_library, "string", side_effect=lambda *words: f"{words} of the library"):
-            error = error_of(_library.Answer(_library.FAULT_SECOND, cause=99), BtfCause)
-        assert isinstance(error, bpfcanon.UnknownCause)
+            error = error_of(Answer(Status.FAULT_SECOND, cause=99), BtfCause)
+        assert isinstance(error, bpfcanon.UnknownCauseError)
         label, text = (f"('btf_cause_{it}', 99) of the library" for it in ("name", "text"))
         self.assertEqual((error.number, error.second, str(error)), (99, True, f"second input: byte 0: {label}: {text}"))
 
     def test_a_stream_counts_the_offset_of_an_unknown_cause_from_its_start(self) -> None:
         program = unhex(INSNS[1][1])
         answers = [
-            (_library.Answer(_library.DONE, read=8), bytearray(program[:8])),
-            (_library.Answer(_library.FAULT, cause=99, pos=1), bytearray()),
+            (Answer(Status.DONE, read=8), bytearray(program[:8])),
+            (Answer(Status.FAULT, cause=99, offset=1), bytearray()),
         ]
         with mock.patch.object(_library, "write", side_effect=answers):
             stream = bpfcanon.insn_stream([program[:8], program[:8]])
             self.assertEqual(next(stream), program[:8])
-            with self.assertRaises(bpfcanon.UnknownCause) as raised:
+            with self.assertRaises(bpfcanon.UnknownCauseError) as raised:
                 next(stream)
-        self.assertEqual((raised.exception.number, raised.exception.pos), (99, 9))
+        self.assertEqual((raised.exception.number, raised.exception.offset), (99, 9))
 
-    def test_the_package_has_the_causes_of_the_header(self) -> None:
-        header = (TOP / "capi" / "bpfcanon.h").read_text()
-        kinds: list[tuple[str, Any]] = [("INSN", InsnCause), ("LINE", LineCause), ("BTF", BtfCause)]
-        for prefix, kind in kinds:
-            count = re.findall(rf"^#define BPFCANON_{prefix}_CAUSES (\d+)$", header, re.MULTILINE)
-            self.assertEqual([str(len(kind))], count)
+    def test_causes_have_names_and_sentences(self) -> None:
+        for kind in InsnCause, LineCause, BtfCause, ObjectCause:
             self.assertEqual([member.label.lower() for member in kind], [member.name.replace("_", "").lower() for member in kind])
             self.assertGreater(min(len(member.text) for member in kind), 10)
+
 
 
 class Calls:
@@ -208,18 +206,6 @@ class Library(unittest.TestCase):
     def test_each_exported_name_is_there(self) -> None:
         for name in bpfcanon.__all__:
             self.assertTrue(hasattr(bpfcanon, name), name)
-
-    def test_numbers_are_those_of_the_header(self) -> None:
-        header = (TOP / "capi" / "bpfcanon.h").read_text()
-        enums = re.findall(r"^enum bpfcanon_(?:order|status|\w+_cause|group) \{\n(.*?)^\};", header, re.MULTILINE | re.DOTALL)
-        numbers = {name: int(number) for name, number in re.findall(r"^\tBPFCANON_(\w+) = (\d+)", "".join(enums), re.MULTILINE)}
-        kinds: list[tuple[str, Any]] = [("", Order), ("", bpfcanon.Group), ("INSN_", InsnCause), ("LINE_", LineCause), ("BTF_", BtfCause)]
-        kinds.append(("OBJECT_", ObjectCause))
-        ours = {prefix + member.name: member.value for prefix, kind in kinds for member in kind}
-        statuses = ["DONE", "DIFFERENT", "FAULT", "FAULT_SECOND", "MEMORY", "ROOM", "ORDER", "ALIGNMENT"]
-        self.assertEqual(ours | {name: k for k, name in enumerate(statuses)}, numbers)
-        lengths = re.findall(r"^#define BPFCANON_(?:OBJECT_MAX|KEY_SIZE) (\d+)", header, re.MULTILINE)
-        self.assertEqual(lengths, [str(objects.MAX_SIZE), str(objects.KEY_SIZE)])
 
 
 @unittest.skipUnless(importlib.util.find_spec("elftools"), "pyelftools")

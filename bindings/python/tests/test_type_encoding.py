@@ -6,9 +6,9 @@ import pickle
 import unittest
 from typing import Any, Optional
 
-from bpfcanon import Btf, BtfCause, EncodeTypeError, Order, OrderError, btf_canon, btf_encode
+from bpfcanon import Btf, BtfCause, EncodeBtfError, Order, OrderError, btf_canon, btf_encode
 from bpfcanon.types import Array, Const, Datasec, DeclTag, Encoding, Entry, Enum, Enum64, EnumValue, Float, Func, FuncProto, Fwd, Int
-from bpfcanon.types import Linkage, Member, Param, Ptr, Restrict, Struct, Type, TypeTag, Typedef, Union, Value64, Var, Void, Volatile
+from bpfcanon.types import Linkage, Member, Param, Ptr, Restrict, Struct, Type, TypeTag, Typedef, Union, Var, Void, Volatile
 
 from .samples import TESTDATA, btf
 
@@ -43,8 +43,8 @@ WRITTEN: list[tuple[Type, list[int]]] = [
     (DeclTag("a", True, 15, None), [1, info(17, 0, 1), 15, 0xFFFFFFFF]),
     (TypeTag("a", False, 1), [1, info(18), 1]),
     (TypeTag("a", True, 1), [1, info(18, 0, 1), 1]),
-    (Enum64("a", True, 8, [Value64("bc", -(1 << 63) + 2)]), [1, info(19, 1, 1), 8, 3, 2, 0x80000000]),
-    (Enum64("a", False, 8, [Value64("bc", (1 << 63) + 2)]), [1, info(19, 1), 8, 3, 2, 0x80000000]),
+    (Enum64("a", True, 8, [EnumValue("bc", -(1 << 63) + 2)]), [1, info(19, 1, 1), 8, 3, 2, 0x80000000]),
+    (Enum64("a", False, 8, [EnumValue("bc", (1 << 63) + 2)]), [1, info(19, 1), 8, 3, 2, 0x80000000]),
 ]
 
 # Values that no BTF holds.
@@ -81,9 +81,8 @@ NO_TYPES: list[Any] = [
     Enum("a", False, 4, [EnumValue("a", 1 << 32)]),
     Enum("a", True, 4, [EnumValue("a", 1 << 31)]),
     Enum("a", True, 4, [EnumValue("a", -(1 << 31) - 1)]),
-    Enum("a", True, 4, [Value64("a", 1)]),  # type: ignore[list-item]
-    Enum64("a", False, 8, [Value64("a", -1)]),
-    Enum64("a", True, 8, [Value64("a", 1 << 63)]),
+    Enum64("a", False, 8, [EnumValue("a", -1)]),
+    Enum64("a", True, 8, [EnumValue("a", 1 << 63)]),
     FuncProto(0, [Member("", 0, 0, 0)]),  # type: ignore[list-item]
     Datasec("a", 4, [Entry(0, -1, 1)]),
     DeclTag("a", False, 1, -1),
@@ -111,7 +110,7 @@ class Encoded(unittest.TestCase):
         for to in Order:
             want = btf_canon(btf("<", (words, STRINGS)), to=to)
             self.assertEqual(btf_encode(types, to=to), want)
-            self.assertEqual(btf_encode(iter(Btf(want).types.values()), to=to), want)
+            self.assertEqual(btf_encode(iter(Btf(want)[1:]), to=to), want)
 
     def test_no_types(self) -> None:
         self.assertEqual(btf_encode([], to=Order.BIG), btf(">", ([], b"\0")))
@@ -120,7 +119,7 @@ class Encoded(unittest.TestCase):
         for file in TESTDATA.glob("*.btf"):
             for to in Order:
                 want = btf_canon(file.read_bytes(), to=to)
-                self.assertEqual(btf_encode(Btf(file.read_bytes()).types.values(), to=to), want, file.name)
+                self.assertEqual(btf_encode(Btf(file.read_bytes())[1:], to=to), want, file.name)
 
     def test_a_number_that_is_no_order_is_refused(self) -> None:
         number: Any = 2
@@ -130,7 +129,7 @@ class Encoded(unittest.TestCase):
 
 class Refused(unittest.TestCase):
     def refused(self, types: list[Any], index: int, cause: Optional[BtfCause]) -> None:
-        with self.assertRaises(EncodeTypeError) as raised:
+        with self.assertRaises(EncodeBtfError) as raised:
             btf_encode(types)
         self.assertEqual(raised.exception.args, (index, types[index], cause))
 
@@ -146,7 +145,8 @@ class Refused(unittest.TestCase):
 
     def test_the_first_is_named(self) -> None:
         self.refused([Ptr(0), Ptr(9), Typedef("", 0)], 1, BtfCause.REFERENCE)
-        self.refused([Ptr(9), Void(), Void()], 1, None)  # a value that no BTF holds comes before a fault
+        self.refused([Void(), Ptr(9), Ptr(9)], 1, BtfCause.REFERENCE)  # a fault comes before a value that no BTF holds
+        self.refused([Ptr(0), Void(), Void()], 1, None)
 
     def test_sections_have_a_limit(self) -> None:
         types: list[Any] = [Fwd(chr(97 + it) * ((1 << 20) - 1), False) for it in range(16)]
@@ -157,9 +157,9 @@ class Refused(unittest.TestCase):
         self.refused([most] * 43, 42, BtfCause.TYPE_LENGTH)
 
     def test_errors_have_a_text_and_are_pickled(self) -> None:
-        error = EncodeTypeError(3, Ptr(9), BtfCause.REFERENCE)
+        error = EncodeBtfError(3, Ptr(9), BtfCause.REFERENCE)
         self.assertEqual(str(error), "the type with index 3 can't be encoded: Reference: the type ID is over the number of types")
-        self.assertEqual(str(EncodeTypeError(0, Ptr(-1), None)), "the type with index 0 can't be encoded: Ptr(target=-1)")
+        self.assertEqual(str(EncodeBtfError(0, Ptr(-1), None)), "the type with index 0 can't be encoded: Ptr(target=-1)")
         self.assertEqual(pickle.loads(pickle.dumps(error)).args, error.args)
 
 

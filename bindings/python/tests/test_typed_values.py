@@ -10,10 +10,10 @@ import unittest
 from typing import Any, Callable
 
 import bpfcanon
-from bpfcanon import Btf, EncodeError, NoSuchType, Order, OrderError, Program, TypeCircle, insn_encode, insns
+from bpfcanon import Btf, EncodeInsnError, NoSuchTypeError, Order, OrderError, Program, TypeCycleError, insn_encode, insns
 from bpfcanon.insn_types import Alu, AluOp, AtomicOp, Atomic, Branch, BranchOp, CallBtf, CallHelper, Exit, Imm, Insn, Jump, Load, LoadSigned
 from bpfcanon.insn_types import MapFd, MapValueFd, Number, Reg, Size, SmallSize, StoreImm, Wide, Width
-from bpfcanon.types import Const, Enum, EnumValue, Int, Member, Struct, Typedef, Void
+from bpfcanon.types import Const, Encoding, Enum, EnumValue, Int, Member, Struct, Typedef, Void
 
 from .samples import INSNS, btf, load, unhex
 
@@ -83,16 +83,16 @@ class Programs(unittest.TestCase):
 
     def test_a_value_that_is_no_instruction_is_named(self) -> None:
         for count, wrong in enumerate(WRONG):
-            with self.assertRaises(EncodeError) as raised:
+            with self.assertRaises(EncodeInsnError) as raised:
                 insn_encode([*VALUES[: count % 4], wrong, Exit()])
             self.assertEqual(raised.exception.args, (count % 4, wrong))
-        self.assertIn("instruction 0 can't be encoded: Jump(off=32768)", str(EncodeError(0, Jump(1 << 15))))
+        self.assertIn("instruction 0 can't be encoded: Jump(off=32768)", str(EncodeInsnError(0, Jump(1 << 15))))
 
     def test_the_first_of_two_is_named(self) -> None:
         late, early = Jump(1 << 15), Load(Size.B, 11, Reg.R1, 0)  # type: ignore[arg-type]
         orders: list[list[Insn]] = [[Exit(), early, late], [Exit(), late, early]]
         for values in orders:
-            with self.assertRaises(EncodeError) as raised:
+            with self.assertRaises(EncodeInsnError) as raised:
                 insn_encode(values)
             self.assertEqual(raised.exception.index, 1)
 
@@ -120,61 +120,70 @@ class Types(unittest.TestCase):
         found = Btf(load("flow_table.little.btf"))
         (id,) = found.by_name("flow")
         self.assertEqual((id, found.name(id)), (3, "flow"))
-        self.assertEqual(found.types[5], Int("unsigned int", 4, bpfcanon.types.Encoding.PLAIN, 0, 32))
-        self.assertEqual((found.type(0), found.name(0), found.name(2)), (Void(), "", ""))
+        self.assertEqual(found[5], Int("unsigned int", 4, Encoding.PLAIN, 0, 32))
+        self.assertEqual((found[0], found.name(0), found.name(2)), (Void(), "", ""))
         self.assertEqual([found.by_name(it) for it in ("", "none")], [(), ()])
         two = table([1, info(8), 0], [1, info(8), 1], [3, info(8), 0])
         self.assertEqual([two.by_name("a"), two.by_name("b")], [(1, 2), (3,)])
 
     def test_an_id_that_isnt_there_is_named(self) -> None:
         found = table([1, info(8), 0])
-        wrong: list[Any] = [2, -1, 1 << 40, "a", 0.5]
-        for id in wrong:
-            for call in found.type, found.name, found.resolve, found.types.__getitem__:
-                with self.assertRaises(NoSuchType) as raised:
+        for id in 2, 1 << 40:
+            calls: list[Callable[[int], object]] = [found.__getitem__, found.name, found.resolve]
+            for call in calls:
+                with self.assertRaises(NoSuchTypeError) as raised:
                     call(id)
                 self.assertEqual(raised.exception.args, (id, 1))
-            self.assertNotIn(id, found.types)
-            self.assertIsNone(found.types.get(id))
-        self.assertIsInstance(raised.exception, KeyError)
-        self.assertEqual(str(raised.exception), "there is no type 0.5: the file has 1 types")
-        self.assertNotIn(0, found.types)
+        self.assertIsInstance(raised.exception, IndexError)
+        self.assertEqual(str(raised.exception), "there is no type 1099511627776: the file has 1 types")
+        for call in found.name, found.resolve:
+            with self.assertRaises(NoSuchTypeError):
+                call(-1)
+
+    def test_types_are_a_sequence(self) -> None:
+        found = table([1, info(8), 0], [3, info(8), 1])
+        right = [Void(), Typedef("a", 0), Typedef("b", 1)]
+        self.assertEqual((list(found), len(found), list(reversed(found))), (right, 3, right[::-1]))
+        self.assertEqual((found[-1], found[1:], found[:0], found.index(right[2])), (right[2], tuple(right[1:]), (), 2))
+        self.assertNotIn(Typedef("b", 0), found)
+        with self.assertRaises(NoSuchTypeError):
+            found[-4]
 
     def test_modifiers_and_typedefs_are_followed(self) -> None:
         tag, pointer = [1, info(18), 6], [0, info(2), 5]
         found = table([1, info(8), 2], [0, info(10), 3], [0, info(9), 4], [0, info(11), 5], tag, pointer, [0, info(10), 0])
         self.assertEqual([found.resolve(id) for id in range(8)], [0, 6, 6, 6, 6, 6, 6, 0])
 
-    def test_a_circle_has_no_end(self) -> None:
+    def test_a_cycle_has_no_end(self) -> None:
         found = table([0, info(10), 1], [0, info(10), 3], [1, info(8), 2], [0, info(9), 2], [0, info(2), 5])
         for id in range(1, 5):
-            with self.assertRaises(TypeCircle) as raised:
+            with self.assertRaises(TypeCycleError) as raised:
                 found.resolve(id)
-            self.assertEqual(str(raised.exception), f"type {id} leads round a circle")
+            self.assertEqual(str(raised.exception), f"type {id} leads back to itself")
         self.assertEqual(found.resolve(5), 5)
-        self.assertEqual(found.types[1], Const(1))
+        self.assertEqual(found[1], Const(1))
 
     def test_signed_values_have_a_sign(self) -> None:
         values = [1, 0xFFFFFFFE, 3, 5]
         for flag, first in (0, 0xFFFFFFFE), (1, -2):
             found = table([0, info(6, 2, flag), 4, *values])
-            self.assertEqual(found.types[1], Enum("", bool(flag), 4, (EnumValue("a", first), EnumValue("b", 5))))
+            self.assertEqual(found[1], Enum("", bool(flag), 4, (EnumValue("a", first), EnumValue("b", 5))))
 
     def test_equal_types_have_equal_hashes(self) -> None:
         record = [1, info(4, 1), 4, 3, 0, 0]
-        first, second = table(record).types[1], table([1, info(8), 0], record).types[2]
+        first, second = table(record)[1], table([1, info(8), 0], record)[2]
         value = Struct("a", 4, (Member("b", 0, 0, 0),))
         self.assertEqual({first, second, Struct("a", 4, [Member("b", 0, 0, 0)])}, {value})
-        self.assertNotEqual(first, table([1, info(4, 1), 4, 3, 0, 1]).types[1])
+        self.assertNotEqual(first, table([1, info(4, 1), 4, 3, 0, 1])[1])
         self.assertEqual(repr(first), repr(value))
 
     def test_values_can_be_pickled(self) -> None:
-        for value in *VALUES, *Btf(load("flow_table.little.btf")).types.values():
+        for value in *VALUES, *Btf(load("flow_table.little.btf"))[1:]:
             self.assertEqual(pickle.loads(pickle.dumps(value)), value)
             self.assertEqual(copy.deepcopy(value), value)
 
     def test_items_are_a_sequence(self) -> None:
-        flow = Btf(load("flow_table.little.btf")).types[3]
+        flow = Btf(load("flow_table.little.btf"))[3]
         assert isinstance(flow, Struct)
         self.assertEqual([it.name for it in flow.members[-2:]], ["host", "name"])
         self.assertEqual((len(flow.members), flow.members[0].name, flow.members[-1].name), (7, "source", "name"))
@@ -207,7 +216,7 @@ class Package(unittest.TestCase):
         script = "import sys, bpfcanon; loaded = [it for it in sys.modules if it.startswith('bpfcanon.')]; "
         script += "print('dataclasses' in sys.modules, *sorted(it[9:] for it in loaded)); bpfcanon.Btf; bpfcanon.insns"
         done = subprocess.run([sys.executable, "-c", script], capture_output=True, text=True, check=True)
-        self.assertEqual(done.stdout.split(), ["False", "_library", "btf", "causes", "errors", "insn"])
+        self.assertEqual(done.stdout.split(), ["False", "_library", "btf", "causes", "errors", "header", "insn"])
 
     def test_typed_values_are_listed(self) -> None:
         self.assertEqual(set(bpfcanon.__all__) - set(dir(bpfcanon)), set())

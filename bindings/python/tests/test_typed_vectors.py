@@ -5,7 +5,7 @@ from __future__ import annotations
 import unittest
 
 import bpfcanon
-from bpfcanon import Btf, BtfCause, Fault, Group, InsnCause, Order, Program
+from bpfcanon import Btf, BtfCause, FaultError, Group, InsnCause, Order, Program
 
 from .samples import TESTDATA
 from .test_vectors import ORDERS, data, rows, text
@@ -17,7 +17,7 @@ def insn_listing(program: Program) -> str:
 
 
 def type_listing(btf: Btf) -> str:
-    return "".join(f"{line}\n" for id, it in btf.types.items() for line in type_lines(id, it))
+    return "".join(f"{line}\n" for id, it in enumerate(btf[1:], 1) for line in type_lines(id, it))
 
 
 class Typed(unittest.TestCase):
@@ -34,7 +34,7 @@ class Typed(unittest.TestCase):
     def test_faulty_instructions(self) -> None:
         for name, *files, pos, cause in rows("insn-fault"):
             for order, code in zip(ORDERS, map(data, files)):
-                with self.assertRaises(Fault) as raised:
+                with self.assertRaises(FaultError) as raised:
                     Program(code, order=order)
                 self.assertEqual(raised.exception.args, (InsnCause[cause_name(cause)], int(pos), 0, False), name)
 
@@ -44,14 +44,14 @@ class Typed(unittest.TestCase):
             for file in {*map(data, files)}:
                 btf = Btf(file)
                 for to in ORDERS:
-                    self.assertEqual(bpfcanon.btf_encode(btf.types.values(), to=to), canonical[to], name)
+                    self.assertEqual(bpfcanon.btf_encode(btf[1:], to=to), canonical[to], name)
                 self.assertEqual(type_listing(btf).encode(), text(shown), name)
-                self.assertEqual((len(btf.types), list(btf.types)), (int(count), list(range(1, int(count) + 1))), name)
+                self.assertEqual(len(btf), int(count) + 1, name)
 
     def test_faulty_types(self) -> None:
         for name, *files, pos, cause in rows("btf-fault"):
             for file in map(data, files):
-                with self.assertRaises(Fault) as raised:
+                with self.assertRaises(FaultError) as raised:
                     Btf(file)
                 self.assertEqual(raised.exception.args, (BtfCause[cause_name(cause)], int(pos), 0, False), name)
 

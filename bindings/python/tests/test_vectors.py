@@ -6,7 +6,7 @@ import unittest
 from typing import Callable
 
 import bpfcanon
-from bpfcanon import BtfCause, Fault, Group, InsnCause, LineCause, Order
+from bpfcanon import BtfCause, FaultError, Group, InsnCause, LineCause, Order
 
 from .samples import TESTDATA
 
@@ -41,7 +41,7 @@ def data(field: str) -> bytes:
 class Vectors(unittest.TestCase):
     def faults(self, calls: list[Callable[[], object]], *args: object) -> None:
         for call in calls:
-            with self.assertRaises(Fault) as raised:
+            with self.assertRaises(FaultError) as raised:
                 call()
             self.assertEqual(raised.exception.args, args)
 

@@ -12,7 +12,7 @@ MOVSX = {MovsxForm.W32_FROM8: "movsx8_32", MovsxForm.W32_FROM16: "movsx16_32", M
 MOVSX |= {MovsxForm.W64_FROM16: "movsx16", MovsxForm.W64_FROM32: "movsx32"}
 SUFFIX = {Width.W32: "32", Width.W64: ""}
 SIZES = {Size.B: "b", Size.H: "h", Size.W: "w", Size.D: "dw", SmallSize.B: "b", SmallSize.H: "h", SmallSize.W: "w"}
-SWAPS = {SwapKind.LE: "le", SwapKind.BE: "be", SwapKind.SWAP: "swap"}
+SWAPS = {SwapKind.LE: "le", SwapKind.BE: "be", SwapKind.BYTES: "swap"}
 # The operations whose mnemonic is more than their name.
 ATOMIC = {op: f"atomic_{op.name.lower()}" for op in (insn.AtomicOp.ADD, insn.AtomicOp.OR, insn.AtomicOp.AND, insn.AtomicOp.XOR)}
 WIDE = {insn.Number: "lddw", insn.MapFd: "lddw_map", insn.MapValueFd: "lddw_map_value", insn.VarAddr: "lddw_var"}
@@ -81,7 +81,7 @@ def component(it: btf.DeclTag) -> int:
 
 
 TYPE_LINES: dict[type, Callable[[Any], str]] = {
-    btf.Int: lambda it: f"int {quoted(it.name)} size={it.size} encoding={it.encoding.name.lower()} offset={it.offset} bits={it.bits}",
+    btf.Int: lambda it: f"int {quoted(it.name)} size={it.size} encoding={it.encoding.name.lower()} offset={it.bit_offset} bits={it.bits}",
     btf.Ptr: lambda it: f"ptr type={it.target}",
     btf.Array: lambda it: f"array type={it.target} index={it.index} count={it.count}",
     btf.Struct: lambda it: f"struct {quoted(it.name)} size={it.size} items={len(it.members)}",
@@ -102,7 +102,6 @@ TYPE_LINES: dict[type, Callable[[Any], str]] = {
     btf.Enum64: lambda it: f"enum64 {quoted(it.name)} {signed(it.signed)} size={it.size} items={len(it.values)}",
     btf.Member: lambda it: f"  member {quoted(it.name)} type={it.target} offset={it.bit_offset} width={it.width}",
     btf.EnumValue: lambda it: f"  value {quoted(it.name)} {it.value}",
-    btf.Value64: lambda it: f"  value {quoted(it.name)} {it.value}",
     btf.Param: lambda it: f"  param {quoted(it.name)} type={it.target}",
     btf.Entry: lambda it: f"  entry type={it.target} offset={it.offset} size={it.size}",
 }

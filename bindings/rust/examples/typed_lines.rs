@@ -6,7 +6,7 @@
 //! typed_lines btf FILE
 //! ```
 
-use bpfcanon::btf::{Btf, Item, Type};
+use bpfcanon::btf::{Btf, Type};
 use bpfcanon::insn::{Insn, Operand, Program, WideOf};
 use bpfcanon::Order;
 use std::error::Error;
@@ -75,46 +75,53 @@ fn insn_line(insn: Insn) -> String {
 }
 
 #[rustfmt::skip]
-fn type_line(it: Type<'_>) -> String {
+fn type_line(it: &Type<'_>) -> String {
     match it {
         Type::Void => "void".into(),
-        Type::Int { name, size, encoding, offset, bits } =>
-            format!("int name={name} size={size} encoding={} offset={offset} bits={bits}", Snake(encoding)),
+        Type::Int { name, size, encoding, bit_offset, bits } =>
+            format!("int name={name} size={size} encoding={} bit_offset={bit_offset} bits={bits}", Snake(encoding)),
         Type::Ptr { target } => format!("ptr target={target}"),
         Type::Array { target, index, count } => format!("array target={target} index={index} count={count}"),
-        Type::Struct { name, size } => format!("struct name={name} size={size}"),
-        Type::Union { name, size } => format!("union name={name} size={size}"),
-        Type::Enum { name, signed, size } => format!("enum name={name} signed={signed} size={size}"),
+        Type::Struct { name, size, .. } => format!("struct name={name} size={size}"),
+        Type::Union { name, size, .. } => format!("union name={name} size={size}"),
+        Type::Enum { name, signed, size, .. } => format!("enum name={name} signed={signed} size={size}"),
         Type::Fwd { name, is_union } => format!("fwd name={name} is_union={is_union}"),
         Type::Typedef { name, target } => format!("typedef name={name} target={target}"),
         Type::Volatile { target } => format!("volatile target={target}"),
         Type::Const { target } => format!("const target={target}"),
         Type::Restrict { target } => format!("restrict target={target}"),
         Type::Func { name, linkage, target } => format!("func name={name} linkage={} target={target}", Snake(linkage)),
-        Type::FuncProto { target } => format!("func_proto target={target}"),
+        Type::FuncProto { target, .. } => format!("func_proto target={target}"),
         Type::Var { name, target, linkage } => format!("var name={name} target={target} linkage={}", Snake(linkage)),
-        Type::Datasec { name, size } => format!("datasec name={name} size={size}"),
+        Type::Datasec { name, size, .. } => format!("datasec name={name} size={size}"),
         Type::Float { name, size } => format!("float name={name} size={size}"),
         Type::DeclTag { name, flag, target, component } => {
             let component = component.map_or("none".into(), |it| it.to_string());
             format!("decl_tag name={name} flag={flag} target={target} component={component}")
         }
         Type::TypeTag { name, flag, target } => format!("type_tag name={name} flag={flag} target={target}"),
-        Type::Enum64 { name, signed, size } => format!("enum64 name={name} signed={signed} size={size}"),
+        Type::Enum64 { name, signed, size, .. } => format!("enum64 name={name} signed={signed} size={size}"),
     }
 }
 
-fn item_line(item: Item<'_>) -> String {
-    match item {
-        Item::Member { name, target, bit_offset, width } => {
-            format!("member name={name} target={target} bit_offset={bit_offset} width={width}")
-        }
-        Item::EnumValue { name, value } => format!("enum_value name={name} value={value}"),
-        Item::Value64 { name, value } => format!("value64 name={name} value={value}"),
-        Item::Param { name, target } => format!("param name={name} target={target}"),
-        Item::Entry { target, offset, size } => {
-            format!("entry target={target} offset={offset} size={size}")
-        }
+/// A line for each member, value, parameter or entry of a type.
+#[rustfmt::skip]
+fn item_lines(it: &Type<'_>) -> Vec<String> {
+    match it {
+        Type::Struct { members, .. } | Type::Union { members, .. } => members.iter().map(|it| {
+            format!("member name={} target={} bit_offset={} width={}", it.name, it.target, it.bit_offset, it.width)
+        }).collect(),
+        Type::Enum { signed, values, .. } | Type::Enum64 { signed, values, .. } => values.iter().map(|it| {
+            let value = if *signed { (it.value as i64).to_string() } else { it.value.to_string() };
+            format!("enum_value name={} value={value}", it.name)
+        }).collect(),
+        Type::FuncProto { params, .. } => params.iter().map(|it| {
+            format!("param name={} target={}", it.name, it.target)
+        }).collect(),
+        Type::Datasec { entries, .. } => entries.iter().map(|it| {
+            format!("entry target={} offset={} size={}", it.target, it.offset, it.size)
+        }).collect(),
+        _ => Vec::new(),
     }
 }
 
@@ -126,11 +133,10 @@ fn print_insns(order: Order, bytes: &[u8], mut out: impl Write) -> Result<(), Bo
 }
 
 fn print_types(file: &[u8], mut out: impl Write) -> Result<(), Box<dyn Error>> {
-    let btf = Btf::decode(file)?;
-    for (id, it) in &btf {
-        writeln!(out, "{id} {}", type_line(it))?;
-        for item in btf.items(id) {
-            writeln!(out, "  {}", item_line(item))?;
+    for (id, it) in &Btf::decode(file)? {
+        writeln!(out, "{id} {}", type_line(&it))?;
+        for line in item_lines(&it) {
+            writeln!(out, "  {line}")?;
         }
     }
     Ok(out.flush()?)

@@ -6,11 +6,10 @@ mod file;
 mod items;
 mod resolve;
 mod types;
-mod writer;
 
 pub use encode::{encode, EncodeError};
 pub use file::{Btf, Types};
-pub use items::{Item, Items};
+pub use items::{Entry, EnumValue, Member, Param};
 pub use resolve::ResolveError;
 pub use types::{Encoding, Linkage, Type, TypeId};
 
@@ -21,76 +20,77 @@ pub type Error = crate::Error<Cause>;
 
 /// The length in bytes of the longest BTF without a fault: a header of 4,096 bytes, types of 32 MiB
 /// and strings of 16 MiB.
-pub const MAX: usize = 50_335_744;
+pub const MAX: usize = sys::BPFCANON_BTF_MAX as usize;
 
 call::causes! {
     /// Why BTF is refused, with the field names of btf.rst. `docs/FAULTS.md` says what to do about
     /// each cause.
-    Cause, "byte", sys::bpfcanon_btf_cause_name, sys::bpfcanon_btf_cause_text;
-    /// The input has fewer than 24 bytes.
-    ShortHeader = 1,
-    /// The first two bytes are not the magic number, in either byte order.
-    Magic = 2,
+    Cause, "byte", offset, sys::bpfcanon_btf_cause_name, sys::bpfcanon_btf_cause_text;
+    /// The file has fewer than 24 bytes.
+    ShortHeader = BPFCANON_BTF_CAUSE_SHORT_HEADER,
+    /// The file does not begin with the BTF magic number in either byte order.
+    Magic = BPFCANON_BTF_CAUSE_MAGIC,
     /// The version is not 1.
-    Version = 3,
+    Version = BPFCANON_BTF_CAUSE_VERSION,
     /// The flags are not 0.
-    Flags = 4,
-    /// `hdr_len` is under 24, over 4,096 or over the length of the input.
-    HeaderLength = 5,
-    /// A byte of the header after its first 24 is not 0.
-    HeaderTail = 6,
+    Flags = BPFCANON_BTF_CAUSE_FLAGS,
+    /// `hdr_len` is under 24, over 4,096 or over the length of the file.
+    HeaderLength = BPFCANON_BTF_CAUSE_HEADER_LENGTH,
+    /// A byte of the header after the first 24 is not 0.
+    HeaderTail = BPFCANON_BTF_CAUSE_HEADER_TAIL,
     /// `type_len` is over 33,554,432.
-    TypeLength = 7,
+    TypeLength = BPFCANON_BTF_CAUSE_TYPE_LENGTH,
     /// `str_len` is 0 or over 16,777,216.
-    StringLength = 8,
-    /// The sections don't follow the header and each other.
-    Sections = 9,
-    /// `hdr_len`, `type_len` and `str_len` don't add up to the length of the input.
-    FileLength = 10,
-    /// The first byte of the string section is not 0.
-    FirstString = 11,
-    /// The last byte of the string section is not 0.
-    LastString = 12,
-    /// The type section ends inside the first three words of a type.
-    RecordCut = 13,
-    /// A bit of `info` that has no meaning is set.
-    InfoBits = 14,
+    StringLength = BPFCANON_BTF_CAUSE_STRING_LENGTH,
+    /// The type and string sections do not follow the header one directly after the other.
+    Sections = BPFCANON_BTF_CAUSE_SECTIONS,
+    /// `hdr_len`, `type_len` and `str_len` do not add up to the length of the file.
+    FileLength = BPFCANON_BTF_CAUSE_FILE_LENGTH,
+    /// The first byte of the string section is not NUL.
+    FirstString = BPFCANON_BTF_CAUSE_FIRST_STRING,
+    /// The last byte of the string section is not NUL.
+    LastString = BPFCANON_BTF_CAUSE_LAST_STRING,
+    /// The type section ends inside the first three words of a record.
+    RecordCut = BPFCANON_BTF_CAUSE_RECORD_CUT,
+    /// An unused bit of `info` is set.
+    InfoBits = BPFCANON_BTF_CAUSE_INFO_BITS,
     /// The kind is 0 or over 19.
-    KindNumber = 15,
-    /// `kind_flag` is set and the kind has none.
-    FlagSet = 16,
-    /// `vlen` is not 0 and the kind has no items.
-    Vlen = 17,
-    /// The type section ends inside the data after the first three words of a type.
-    TailCut = 18,
+    KindNumber = BPFCANON_BTF_CAUSE_KIND_NUMBER,
+    /// `kind_flag` is set on a kind that has none.
+    FlagSet = BPFCANON_BTF_CAUSE_FLAG_SET,
+    /// `vlen` is not 0 on a kind without items.
+    Vlen = BPFCANON_BTF_CAUSE_VLEN,
+    /// The type section ends inside the data after the first three words of a record.
+    TailCut = BPFCANON_BTF_CAUSE_TAIL_CUT,
     /// `name_off` is not inside the string section.
-    NameRange = 19,
+    NameRange = BPFCANON_BTF_CAUSE_NAME_RANGE,
     /// The name is not valid UTF-8.
-    NameUtf8 = 20,
+    NameUtf8 = BPFCANON_BTF_CAUSE_NAME_UTF8,
     /// A type of this kind needs a name.
-    NameMissing = 21,
+    NameMissing = BPFCANON_BTF_CAUSE_NAME_MISSING,
     /// A type of this kind has no name.
-    NameUnwanted = 22,
+    NameUnwanted = BPFCANON_BTF_CAUSE_NAME_UNWANTED,
     /// Never reported: the number is kept.
-    TextsTooLong = 23,
+    TextsTooLong = BPFCANON_BTF_CAUSE_TEXTS_TOO_LONG,
     /// The third word of an ARRAY or FWD is not 0.
-    NotZero = 24,
+    NotZero = BPFCANON_BTF_CAUSE_NOT_ZERO,
     /// No type of this kind has this size.
-    Size = 25,
+    Size = BPFCANON_BTF_CAUSE_SIZE,
     /// The type ID is over the number of types.
-    Reference = 26,
+    Reference = BPFCANON_BTF_CAUSE_REFERENCE,
     /// The type that is referred to has the wrong kind.
-    TargetKind = 27,
-    /// The encoding, offset and bits of an INT are not valid.
-    IntWord = 28,
-    /// A record with bit-fields has a member whose INT has an offset, or an unusual width.
-    MemberInt = 29,
+    TargetKind = BPFCANON_BTF_CAUSE_TARGET_KIND,
+    /// The encoding, offset and bits of the INT are not valid.
+    IntWord = BPFCANON_BTF_CAUSE_INT_WORD,
+    /// A record with bit-fields has a member whose INT has an offset, or a width other than 8, 16,
+    /// 32, 64 or 128 bits.
+    MemberInt = BPFCANON_BTF_CAUSE_MEMBER_INT,
     /// The member ends after the end of its struct or union.
-    MemberPlace = 30,
+    MemberPlace = BPFCANON_BTF_CAUSE_MEMBER_PLACE,
     /// The linkage is over 2.
-    Linkage = 31,
-    /// `component_idx` is neither -1 nor the index of a member or parameter.
-    Component = 32,
+    Linkage = BPFCANON_BTF_CAUSE_LINKAGE,
+    /// `component_idx` is neither -1 nor the index of a member or parameter of the tagged type.
+    Component = BPFCANON_BTF_CAUSE_COMPONENT,
 }
 
 /// Returns the canonical form of BTF in the byte order `to`.
@@ -115,16 +115,10 @@ call::causes! {
 /// # Ok::<(), btf::Error>(())
 /// ```
 pub fn canon(to: Order, types: &[u8]) -> Result<Vec<u8>, Error> {
-    call::output(
-        types.len(),
-        |it| it.pos,
-        |out, capacity| {
-            // SAFETY: the slice and the buffer are valid for the call, and don't overlap.
-            unsafe {
-                sys::bpfcanon_btf_canon(to as u32, types.as_ptr(), types.len(), out, capacity)
-            }
-        },
-    )
+    call::output(types.len(), |out, capacity| {
+        // SAFETY: the slice and the buffer are valid for the call, and don't overlap.
+        unsafe { sys::bpfcanon_btf_canon(to as u32, types.as_ptr(), types.len(), out, capacity) }
+    })
 }
 
 /// Returns the types of BTF as text: a line for each type and for each of its items, each with a
@@ -136,17 +130,10 @@ pub fn canon(to: Order, types: &[u8]) -> Result<Vec<u8>, Error> {
 /// since types can share names.
 pub fn show(types: &[u8]) -> Result<String, Error> {
     // The text of a kernel's types is about twice as long as its BTF.
-    let text = call::output(
-        types.len().saturating_mul(3),
-        |it| it.pos,
-        |out: *mut u8, capacity| {
-            // SAFETY: the slice and the buffer are valid for the call, and don't overlap.
-            unsafe { sys::bpfcanon_btf_show(types.as_ptr(), types.len(), out.cast(), capacity) }
-        },
-    )?;
-    let mut text = String::from_utf8(text).expect("the text of types is UTF-8");
-    text.shrink_to_fit();
-    Ok(text)
+    call::text_output(types.len().saturating_mul(3), |out, capacity| {
+        // SAFETY: the slice and the buffer are valid for the call, and don't overlap.
+        unsafe { sys::bpfcanon_btf_show(types.as_ptr(), types.len(), out, capacity) }
+    })
 }
 
 /// Returns the number of types. Type 0, void, is not counted.
@@ -157,10 +144,7 @@ pub fn show(types: &[u8]) -> Result<String, Error> {
 pub fn check(types: &[u8]) -> Result<u32, Error> {
     // SAFETY: the slice is valid for the call.
     let answer = unsafe { sys::bpfcanon_btf_check(types.as_ptr(), types.len()) };
-    match answer.status {
-        sys::DONE => Ok(answer.types),
-        _ => Err(Error::of(&answer, answer.pos)),
-    }
+    Ok(call::done(answer)?.types)
 }
 
 /// Returns whether two BTF inputs, each in either byte order, have the same types in the same

@@ -7,8 +7,10 @@ use std::os::raw::c_char;
 
 /// An enum of causes. The trait can't be named outside the crate, so no other type implements it.
 pub trait CauseNumber: Copy + fmt::Debug + fmt::Display + Send + Sync + 'static {
-    /// What a position counts, in messages.
+    /// What is counted up to the place of a fault, in messages.
     const UNIT: &'static str;
+    /// The place of the fault: an offset, or a line of a listing.
+    fn place(answer: &sys::bpfcanon_answer) -> u64;
     /// The cause of a number.
     fn of_number(number: u32) -> Self;
 }
@@ -25,8 +27,7 @@ pub(crate) fn text(string: *const c_char) -> Option<&'static str> {
 /// Makes a call with a buffer for this many bytes or records, and once more if the output is longer.
 pub(crate) fn output<T, C: CauseNumber>(
     capacity: usize,
-    position: impl Fn(&sys::Answer) -> u64,
-    call: impl Fn(*mut T, usize) -> sys::Answer,
+    call: impl Fn(*mut T, usize) -> sys::bpfcanon_answer,
 ) -> Result<Vec<T>, Error<C>> {
     let mut out = Vec::new();
     let mut capacity = capacity;
@@ -34,33 +35,54 @@ pub(crate) fn output<T, C: CauseNumber>(
         out.try_reserve_exact(capacity).map_err(|_| Error::OutOfMemory)?;
         let answer = call(out.as_mut_ptr(), out.capacity());
         match answer.status {
-            sys::DONE => {
+            sys::BPFCANON_STATUS_DONE => {
                 assert!(answer.written <= out.capacity());
                 // SAFETY: the call has written so many bytes or records.
                 unsafe { out.set_len(answer.written) };
                 return Ok(out);
             }
-            sys::ROOM if answer.needed > out.capacity() => capacity = answer.needed,
-            _ => return Err(Error::of(&answer, position(&answer))),
+            sys::BPFCANON_STATUS_ROOM if answer.needed > out.capacity() => capacity = answer.needed,
+            _ => return Err(Error::of(&answer)),
         }
     }
 }
 
-/// Returns whether two inputs are the same, by the answer of a comparison.
-pub(crate) fn comparison<C: CauseNumber>(answer: &sys::Answer) -> Result<bool, Error<C>> {
+/// Makes a call that writes UTF-8.
+pub(crate) fn text_output<C: CauseNumber>(
+    capacity: usize,
+    call: impl Fn(*mut c_char, usize) -> sys::bpfcanon_answer,
+) -> Result<String, Error<C>> {
+    let text = output(capacity, |out: *mut u8, capacity| call(out.cast(), capacity))?;
+    let mut text = String::from_utf8(text).expect("the library writes UTF-8");
+    text.shrink_to_fit();
+    Ok(text)
+}
+
+/// Returns the answer of a call that is done.
+pub(crate) fn done<C: CauseNumber>(
+    answer: sys::bpfcanon_answer,
+) -> Result<sys::bpfcanon_answer, Error<C>> {
     match answer.status {
-        sys::DONE => Ok(true),
-        sys::DIFFERENT => Ok(false),
-        _ => Err(Error::of(answer, answer.pos)),
+        sys::BPFCANON_STATUS_DONE => Ok(answer),
+        _ => Err(Error::of(&answer)),
+    }
+}
+
+/// Returns whether two inputs are the same, by the answer of a comparison.
+pub(crate) fn comparison<C: CauseNumber>(answer: &sys::bpfcanon_answer) -> Result<bool, Error<C>> {
+    match answer.status {
+        sys::BPFCANON_STATUS_DONE => Ok(true),
+        sys::BPFCANON_STATUS_DIFFERENT => Ok(false),
+        _ => Err(Error::of(answer)),
     }
 }
 
 /// Declares an enum of causes by their names and numbers. Behind these it can have a variant for the
 /// causes of another kind, whose numbers are the smaller ones.
 macro_rules! causes {
-    ($(#[$about:meta])* $kind:ident, $unit:literal, $name:path, $text:path;
-     $($(#[$doc:meta])* $variant:ident = $number:literal,)+
-     $(; $(#[$other_doc:meta])* $other:ident($other_kind:path) below $first:literal)?) => {
+    ($(#[$about:meta])* $kind:ident, $unit:literal, $place:ident, $name:path, $text:path;
+     $($(#[$doc:meta])* $variant:ident = $number:ident,)+
+     $(; $(#[$other_doc:meta])* $other:ident($other_kind:path) below $first:ident)?) => {
         $(#[$about])*
         #[derive(Clone, Copy, Debug, PartialEq, Eq, Hash)]
         #[non_exhaustive]
@@ -78,7 +100,7 @@ macro_rules! causes {
             /// Returns the number of the cause in `bpfcanon.h`.
             pub fn number(self) -> u32 {
                 match self {
-                    $($kind::$variant => $number,)+
+                    $($kind::$variant => $crate::sys::$number,)+
                     $($kind::$other(cause) => cause.number(),)?
                     $kind::Other(number) => number,
                 }
@@ -102,10 +124,14 @@ macro_rules! causes {
         impl $crate::call::CauseNumber for $kind {
             const UNIT: &'static str = $unit;
 
+            fn place(answer: &$crate::sys::bpfcanon_answer) -> u64 {
+                answer.$place
+            }
+
             fn of_number(number: u32) -> $kind {
                 match number {
-                    $($number => $kind::$variant,)+
-                    $(_ if number < $first => $kind::$other(<$other_kind>::of_number(number)),)?
+                    $($crate::sys::$number => $kind::$variant,)+
+                    $(_ if number < $crate::sys::$first => $kind::$other(<$other_kind>::of_number(number)),)?
                     _ => $kind::Other(number),
                 }
             }

@@ -1,22 +1,38 @@
 //! The errors of calls.
 
-use crate::{call::CauseNumber, sys};
+use crate::call::CauseNumber;
+use crate::{btf, insn, object, sys};
 use std::{fmt, io};
 
 /// The first fault of an input.
 #[derive(Clone, Copy, Debug, PartialEq, Eq, Hash)]
 pub struct Fault<C> {
-    pub(crate) position: u64,
+    pub(crate) place: u64,
     pub(crate) cause: C,
     pub(crate) is_in_second: bool,
 }
 
-impl<C: Copy> Fault<C> {
-    /// Returns the offset of the fault in bytes, or in a listing its line, counted from 1.
-    pub fn position(&self) -> u64 {
-        self.position
-    }
+/// The causes of inputs in which a fault has an offset. The trait can't be named outside the crate.
+pub trait OffsetCause {}
+impl OffsetCause for insn::Cause {}
+impl OffsetCause for btf::Cause {}
+impl OffsetCause for object::Cause {}
 
+impl<C: OffsetCause> Fault<C> {
+    /// Returns the offset of the fault in bytes.
+    pub fn offset(&self) -> u64 {
+        self.place
+    }
+}
+
+impl Fault<insn::ListingCause> {
+    /// Returns the line of the fault, counted from 1.
+    pub fn line(&self) -> u64 {
+        self.place
+    }
+}
+
+impl<C: Copy> Fault<C> {
     /// Returns why the input was refused.
     pub fn cause(&self) -> C {
         self.cause
@@ -31,7 +47,7 @@ impl<C: Copy> Fault<C> {
 impl<C: CauseNumber> fmt::Display for Fault<C> {
     fn fmt(&self, f: &mut fmt::Formatter<'_>) -> fmt::Result {
         let input = if self.is_in_second { "second input: " } else { "" };
-        write!(f, "{input}{} {}: {}", C::UNIT, self.position, self.cause)
+        write!(f, "{input}{} {}: {}", C::UNIT, self.place, self.cause)
     }
 }
 
@@ -66,13 +82,14 @@ impl<C> Error<C> {
 
 impl<C: CauseNumber> Error<C> {
     /// The error of an answer whose status is not one of success.
-    pub(crate) fn of(answer: &sys::Answer, position: u64) -> Error<C> {
+    pub(crate) fn of(answer: &sys::bpfcanon_answer) -> Error<C> {
         match answer.status {
-            sys::FAULT | sys::FAULT_SECOND => {
-                let is_in_second = answer.status == sys::FAULT_SECOND;
-                Error::Fault(Fault { position, cause: C::of_number(answer.cause), is_in_second })
+            sys::BPFCANON_STATUS_FAULT | sys::BPFCANON_STATUS_FAULT_SECOND => {
+                let is_in_second = answer.status == sys::BPFCANON_STATUS_FAULT_SECOND;
+                let (place, cause) = (C::place(answer), C::of_number(answer.cause));
+                Error::Fault(Fault { place, cause, is_in_second })
             }
-            sys::MEMORY => Error::OutOfMemory,
+            sys::BPFCANON_STATUS_OUT_OF_MEMORY => Error::OutOfMemory,
             other => Error::Status(other),
         }
     }
@@ -107,17 +124,23 @@ impl<C: CauseNumber> From<Error<C>> for io::Error {
 mod tests {
     use super::*;
     use crate::insn;
+    use crate::sys::*;
 
     /// Each status of `bpfcanon.h` that isn't one of success, and one of a newer library.
     #[test]
     fn each_status_has_its_error() {
         let cause = insn::Cause::Dst;
-        let fault = |is_in_second| Error::Fault(Fault { position: 9, cause, is_in_second });
-        let unknown = [5, 6, 7, 8, 99].map(|status| (status, Error::Status(status)));
-        let known = [(2, fault(false)), (3, fault(true)), (4, Error::OutOfMemory)];
-        for (status, error) in known.into_iter().chain(unknown) {
-            let answer = sys::Answer { status, cause: cause.number(), ..Default::default() };
-            assert_eq!(Error::of(&answer, 9), error, "{status}");
+        let fault = |is_in_second| Error::Fault(Fault { place: 9, cause, is_in_second });
+        let unknown =
+            [BPFCANON_STATUS_ROOM, BPFCANON_STATUS_ORDER, BPFCANON_STATUS_ALIGNMENT, 8, 99];
+        let unknown = unknown.map(|status| (status, Error::Status(status)));
+        let faults =
+            [(BPFCANON_STATUS_FAULT, fault(false)), (BPFCANON_STATUS_FAULT_SECOND, fault(true))];
+        let known = faults.into_iter().chain([(BPFCANON_STATUS_OUT_OF_MEMORY, Error::OutOfMemory)]);
+        for (status, error) in known.chain(unknown) {
+            let cause = cause.number();
+            let answer = bpfcanon_answer { status, cause, offset: 9, ..Default::default() };
+            assert_eq!(Error::of(&answer), error, "{status}");
         }
     }
 }

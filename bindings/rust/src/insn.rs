@@ -21,42 +21,43 @@ use crate::{call, sys, Order};
 /// The error of a call on instructions.
 pub type Error = crate::Error<Cause>;
 
-/// The error of [`read`]. The position of its fault is a line, counted from 1.
+/// The error of [`read`]. Its fault has a line in place of an offset.
 pub type ListingError = crate::Error<ListingCause>;
 
 call::causes! {
     /// Why instructions are refused: the first field such that no instruction matches the bytes in
     /// every field up to and including it. `docs/FAULTS.md` says what to do about each cause.
-    Cause, "byte", sys::bpfcanon_insn_cause_name, sys::bpfcanon_insn_cause_text;
-    /// The input ends inside an instruction. The position is that of the slot that is cut.
-    Truncated = 1,
+    Cause, "byte", offset, sys::bpfcanon_insn_cause_name, sys::bpfcanon_insn_cause_text;
+    /// The input ends inside an instruction.
+    Truncated = BPFCANON_INSN_CAUSE_TRUNCATED,
     /// No instruction has this opcode.
-    Opcode = 2,
+    Opcode = BPFCANON_INSN_CAUSE_OPCODE,
     /// No instruction with this opcode has this destination register.
-    Dst = 3,
+    Dst = BPFCANON_INSN_CAUSE_DST,
     /// No instruction with this opcode has this source register.
-    Src = 4,
+    Src = BPFCANON_INSN_CAUSE_SRC,
     /// No instruction with this opcode and these registers has this offset.
-    Offset = 5,
+    Offset = BPFCANON_INSN_CAUSE_OFFSET,
     /// No instruction with this opcode, these registers and this offset has this immediate.
-    Imm = 6,
-    /// The second slot of a wide load has an opcode, a register or an offset that is not 0.
-    Reserved = 7,
-    /// The immediate of the second slot is not 0, and this kind of wide load takes one number.
-    NextImm = 8,
+    Imm = BPFCANON_INSN_CAUSE_IMM,
+    /// The second slot of a wide load has an opcode, a register or an offset that is not zero.
+    Reserved = BPFCANON_INSN_CAUSE_RESERVED,
+    /// The immediate of the second slot is not zero, and this kind of wide load has one number
+    /// only.
+    NextImm = BPFCANON_INSN_CAUSE_NEXT_IMM,
 }
 
 call::causes! {
     /// Why a listing is refused.
-    ListingCause, "line", sys::bpfcanon_line_cause_name, sys::bpfcanon_line_cause_text;
-    /// The line has a character that no listing has.
-    Char = 1,
+    ListingCause, "line", line, sys::bpfcanon_line_cause_name, sys::bpfcanon_line_cause_text;
+    /// A character that is neither blank nor part of a token.
+    Char = BPFCANON_LINE_CAUSE_CHAR,
     /// No instruction has this mnemonic.
-    Word = 2,
+    Word = BPFCANON_LINE_CAUSE_WORD,
     /// The operands are not those of the mnemonic.
-    Shape = 3,
+    Shape = BPFCANON_LINE_CAUSE_SHAPE,
     /// A number is out of the range of its field.
-    Range = 4,
+    Range = BPFCANON_LINE_CAUSE_RANGE,
 }
 
 /// Returns the instructions of a program in the byte order `order`, written in the order `to`.
@@ -76,23 +77,11 @@ call::causes! {
 /// assert_eq!(error.to_string(), "byte 0: the input ends inside an instruction");
 /// ```
 pub fn canon(order: Order, to: Order, program: &[u8]) -> Result<Vec<u8>, Error> {
-    call::output(
-        program.len(),
-        |it| it.pos,
-        |out, capacity| {
-            // SAFETY: the slice and the buffer are valid for the call, and don't overlap.
-            unsafe {
-                sys::bpfcanon_insn_canon(
-                    order as u32,
-                    to as u32,
-                    program.as_ptr(),
-                    program.len(),
-                    out,
-                    capacity,
-                )
-            }
-        },
-    )
+    let (order, to, bytes, len) = (order as u32, to as u32, program.as_ptr(), program.len());
+    call::output(len, |out, capacity| {
+        // SAFETY: the slice and the buffer are valid for the call, and don't overlap.
+        unsafe { sys::bpfcanon_insn_canon(order, to, bytes, len, out, capacity) }
+    })
 }
 
 /// Returns the listing of a program: a line for each instruction, with a newline.
@@ -101,26 +90,12 @@ pub fn canon(order: Order, to: Order, program: &[u8]) -> Result<Vec<u8>, Error> 
 ///
 /// The first fault of the program, or out of memory.
 pub fn show(order: Order, program: &[u8]) -> Result<String, Error> {
+    let (order, bytes, len) = (order as u32, program.as_ptr(), program.len());
     // No line is longer than four times its instruction.
-    let listing = call::output(
-        program.len().saturating_mul(4),
-        |it| it.pos,
-        |out: *mut u8, capacity| {
-            // SAFETY: the slice and the buffer are valid for the call, and don't overlap.
-            unsafe {
-                sys::bpfcanon_insn_show(
-                    order as u32,
-                    program.as_ptr(),
-                    program.len(),
-                    out.cast(),
-                    capacity,
-                )
-            }
-        },
-    )?;
-    let mut listing = String::from_utf8(listing).expect("a listing is ASCII");
-    listing.shrink_to_fit();
-    Ok(listing)
+    call::text_output(len.saturating_mul(4), |out, capacity| {
+        // SAFETY: the slice and the buffer are valid for the call, and don't overlap.
+        unsafe { sys::bpfcanon_insn_show(order, bytes, len, out, capacity) }
+    })
 }
 
 /// Returns the instructions of a listing, written in the byte order `to`. Comments, blank lines and
@@ -136,28 +111,17 @@ pub fn show(order: Order, program: &[u8]) -> Result<String, Error> {
 /// assert_eq!(insn::read(Order::Little, "exit ; done")?, [0x95, 0, 0, 0, 0, 0, 0, 0]);
 /// let error = insn::read(Order::Little, "exit\nleave\n").unwrap_err();
 /// let fault = error.fault().unwrap();
-/// assert_eq!((fault.position(), fault.cause()), (2, insn::ListingCause::Word));
+/// assert_eq!((fault.line(), fault.cause()), (2, insn::ListingCause::Word));
 /// # Ok::<(), insn::ListingError>(())
 /// ```
 pub fn read(to: Order, listing: impl AsRef<[u8]>) -> Result<Vec<u8>, ListingError> {
     let listing = listing.as_ref();
+    let (to, text, len) = (to as u32, listing.as_ptr().cast(), listing.len());
     // Most lines are longer than their instruction; if they aren't, the call is made once more.
-    call::output(
-        listing.len(),
-        |it| it.line,
-        |out, capacity| {
-            // SAFETY: the slice and the buffer are valid for the call, and don't overlap.
-            unsafe {
-                sys::bpfcanon_insn_read(
-                    to as u32,
-                    listing.as_ptr().cast(),
-                    listing.len(),
-                    out,
-                    capacity,
-                )
-            }
-        },
-    )
+    call::output(len, |out, capacity| {
+        // SAFETY: the slice and the buffer are valid for the call, and don't overlap.
+        unsafe { sys::bpfcanon_insn_read(to, text, len, out, capacity) }
+    })
 }
 
 /// Returns the conformance groups that a program needs, with the groups that these include.
@@ -166,13 +130,10 @@ pub fn read(to: Order, listing: impl AsRef<[u8]>) -> Result<Vec<u8>, ListingErro
 ///
 /// The first fault of the program.
 pub fn groups(order: Order, program: &[u8]) -> Result<Groups, Error> {
+    let (bytes, len) = (program.as_ptr(), program.len());
     // SAFETY: the slice is valid for the call.
-    let answer =
-        unsafe { sys::bpfcanon_insn_groups(order as u32, program.as_ptr(), program.len()) };
-    match answer.status {
-        sys::DONE => Ok(Groups::from_bits_retain(answer.groups)),
-        _ => Err(Error::of(&answer, answer.pos)),
-    }
+    let answer = unsafe { sys::bpfcanon_insn_groups(order as u32, bytes, len) };
+    Ok(Groups::from_bits_retain(call::done(answer)?.groups))
 }
 
 /// Returns whether two programs, each in its own byte order, have the same instructions.

@@ -4,14 +4,14 @@
 //! The same instructions can be encoded in either byte order, and the same types can also lay out
 //! their strings in many ways. [`insn::canon`] and [`btf::canon`] return canonical bytes: two
 //! inputs without a fault have the same instructions or types if and only if their canonical bytes
-//! are equal. For every other input the error is an [`Error::Fault`] with the position and the
+//! are equal. For every other input the error is an [`Error::Fault`] with the offset and the
 //! cause of its first fault.
 //!
-//! Object files have canonical files, which are object files themselves: [`object::canonical`].
+//! Object files have canonical files, which are object files themselves: [`object::canon`].
 //!
 //! [`insn::Program`] and [`btf::Btf`] decode an input into values, for programs that inspect or
-//! compare it: [`insn::Insn`], [`btf::Type`] and [`btf::Item`]. [`insn::encode`] and
-//! [`btf::encode`] are the way back.
+//! compare it: [`insn::Insn`] and [`btf::Type`]. [`insn::encode`] and [`btf::encode`] are the way
+//! back.
 //!
 //! The crate calls the C library `libbpfcanon`, whose core is proved to meet its contracts. The few
 //! lines of C around that core and this crate are tested. The build script finds the library by
@@ -31,7 +31,7 @@
 //! let program = [0x04, 0x10, 0, 0, 0, 0, 0, 5];
 //! let error = insn::canon(Order::Little, Order::Little, &program).unwrap_err();
 //! let fault = error.fault().unwrap();
-//! assert_eq!((fault.position(), fault.cause()), (1, insn::Cause::Src));
+//! assert_eq!((fault.offset(), fault.cause()), (1, insn::Cause::Src));
 //! # Ok::<(), insn::Error>(())
 //! ```
 //!
@@ -50,6 +50,7 @@ mod error;
 pub mod insn;
 pub mod object;
 mod records;
+#[allow(dead_code, missing_docs, non_camel_case_types)]
 mod sys;
 
 pub use error::{Error, Fault};
@@ -73,9 +74,9 @@ use std::fmt;
 pub enum Order {
     /// Little-endian, the order of canonical bytes.
     #[default]
-    Little = 0,
+    Little = sys::BPFCANON_ORDER_LITTLE as isize,
     /// Big-endian.
-    Big = 1,
+    Big = sys::BPFCANON_ORDER_BIG as isize,
 }
 
 impl fmt::Display for Order {

@@ -14,139 +14,142 @@
 //! use bpfcanon::object;
 //!
 //! let file = std::fs::read("../../testdata/objects/pass.little.debug.o")?;
-//! let canonical = object::canonical(&file)?;
+//! let canonical = object::canon(&file)?;
 //! assert!(object::same(&file, &canonical)?);
 //! assert_eq!(object::key(&file)?, object::key(&canonical)?);
 //! assert!(canonical.len() < file.len());
 //!
 //! let error = object::check(&file[..100]).unwrap_err();
 //! let fault = error.fault().unwrap();
-//! assert_eq!((fault.position(), fault.cause()), (40, object::Cause::SectionTable));
+//! assert_eq!((fault.offset(), fault.cause()), (40, object::Cause::SectionTable));
 //! # Ok::<(), Box<dyn std::error::Error>>(())
 //! ```
 
 use crate::{btf, call, sys};
 
-/// The error of a call on object files. Positions count from the first byte of the file.
+/// The error of a call on object files. Offsets count from the first byte of the file.
 pub type Error = crate::Error<Cause>;
 
 /// The length in bytes of the longest object file that is accepted, and of the longest canonical
 /// one: 64 MiB.
-pub const MAX: usize = 67_108_864;
+pub const MAX: usize = sys::BPFCANON_OBJECT_MAX as usize;
 
 /// The length of a key in bytes.
-pub const KEY_SIZE: usize = 32;
+pub const KEY_SIZE: usize = sys::BPFCANON_KEY_SIZE as usize;
 
 call::causes! {
     /// Why an object file is refused. `docs/OBJECTS.md` has the rule of each cause.
-    Cause, "byte", sys::bpfcanon_object_cause_name, sys::bpfcanon_object_cause_text;
+    Cause, "byte", offset, sys::bpfcanon_object_cause_name, sys::bpfcanon_object_cause_text;
     /// The file is longer than 64 MiB.
-    FileTooLarge = 101,
+    FileTooLarge = BPFCANON_OBJECT_CAUSE_FILE_TOO_LARGE,
     /// The file is shorter than an ELF header.
-    FileCut = 102,
+    FileCut = BPFCANON_OBJECT_CAUSE_FILE_CUT,
     /// The file doesn't begin with the magic number of ELF.
-    Magic = 103,
+    Magic = BPFCANON_OBJECT_CAUSE_MAGIC,
     /// The file isn't a 64-bit ELF file.
-    Class = 104,
+    Class = BPFCANON_OBJECT_CAUSE_CLASS,
     /// The file states no byte order.
-    ByteOrder = 105,
+    ByteOrder = BPFCANON_OBJECT_CAUSE_BYTE_ORDER,
     /// `EI_VERSION` isn't 1.
-    IdentVersion = 106,
+    IdentVersion = BPFCANON_OBJECT_CAUSE_IDENT_VERSION,
     /// The file isn't relocatable.
-    FileType = 107,
+    FileType = BPFCANON_OBJECT_CAUSE_FILE_TYPE,
     /// The file isn't for BPF.
-    Machine = 108,
+    Machine = BPFCANON_OBJECT_CAUSE_MACHINE,
     /// `e_version` isn't 1.
-    FileVersion = 109,
+    FileVersion = BPFCANON_OBJECT_CAUSE_FILE_VERSION,
     /// `e_ehsize` isn't 64.
-    HeaderSize = 110,
+    HeaderSize = BPFCANON_OBJECT_CAUSE_HEADER_SIZE,
     /// There are program headers.
-    Segments = 111,
+    Segments = BPFCANON_OBJECT_CAUSE_SEGMENTS,
     /// `e_shentsize` isn't 64.
-    SectionHeaderSize = 112,
+    SectionHeaderSize = BPFCANON_OBJECT_CAUSE_SECTION_HEADER_SIZE,
     /// The number of sections is 0, or 0xff00 or more.
-    SectionCount = 113,
+    SectionCount = BPFCANON_OBJECT_CAUSE_SECTION_COUNT,
     /// The section header table isn't inside the file.
-    SectionTable = 114,
+    SectionTable = BPFCANON_OBJECT_CAUSE_SECTION_TABLE,
     /// `e_shstrndx` isn't the index of a section.
-    NamesIndex = 115,
-    /// The first section header isn't zero.
-    FirstSection = 116,
+    NamesIndex = BPFCANON_OBJECT_CAUSE_NAMES_INDEX,
+    /// The first section header isn't all zeros.
+    FirstSection = BPFCANON_OBJECT_CAUSE_FIRST_SECTION,
     /// The names of sections aren't in a string table.
-    NamesTable = 117,
+    NamesTable = BPFCANON_OBJECT_CAUSE_NAMES_TABLE,
     /// The section extends past the end of the file.
-    SectionCut = 118,
+    SectionCut = BPFCANON_OBJECT_CAUSE_SECTION_CUT,
     /// The section's name is outside the names, or longer than 1,024 bytes.
-    SectionName = 119,
+    SectionName = BPFCANON_OBJECT_CAUSE_SECTION_NAME,
     /// No section of a BPF object has this type, name and flags.
-    SectionKind = 120,
-    /// There are two sections of a kind of which a file has one.
-    SectionTwice = 121,
-    /// The table of relocations isn't named after the section that it is for.
-    RelocationTarget = 122,
+    SectionKind = BPFCANON_OBJECT_CAUSE_SECTION_KIND,
+    /// There is a second .symtab, `.BTF` or `.BTF.ext`.
+    SectionTwice = BPFCANON_OBJECT_CAUSE_SECTION_TWICE,
+    /// The table of relocations isn't named after its section, or that isn't code or data.
+    RelocationTarget = BPFCANON_OBJECT_CAUSE_RELOCATION_TARGET,
     /// There is no symbol table.
-    NoSymbols = 123,
-    /// The size of the symbol table isn't that of one or more symbols.
-    SymbolTableSize = 124,
+    NoSymbols = BPFCANON_OBJECT_CAUSE_NO_SYMBOLS,
+    /// The size of the symbol table is 0 or not a multiple of 24.
+    SymbolTableSize = BPFCANON_OBJECT_CAUSE_SYMBOL_TABLE_SIZE,
     /// `sh_entsize` of the symbol table isn't 24.
-    SymbolEntrySize = 125,
+    SymbolEntrySize = BPFCANON_OBJECT_CAUSE_SYMBOL_ENTRY_SIZE,
     /// The names of symbols aren't in a string table.
-    SymbolNames = 126,
-    /// The first symbol isn't zero.
-    FirstSymbol = 127,
+    SymbolNames = BPFCANON_OBJECT_CAUSE_SYMBOL_NAMES,
+    /// The first symbol isn't all zeros.
+    FirstSymbol = BPFCANON_OBJECT_CAUSE_FIRST_SYMBOL,
     /// The symbol's name is outside the names of symbols.
-    SymbolName = 128,
-    /// The symbol is in no section, or isn't local and in a section that loaders don't see.
-    SymbolSection = 129,
+    SymbolName = BPFCANON_OBJECT_CAUSE_SYMBOL_NAME,
+    /// The symbol's section doesn't exist, or isn't code or data and the symbol isn't local.
+    SymbolSection = BPFCANON_OBJECT_CAUSE_SYMBOL_SECTION,
     /// The symbol extends past the end of its section.
-    SymbolPlace = 130,
+    SymbolPlace = BPFCANON_OBJECT_CAUSE_SYMBOL_PLACE,
     /// The size of the table of relocations isn't a multiple of 16.
-    RelocationTableSize = 131,
+    RelocationTableSize = BPFCANON_OBJECT_CAUSE_RELOCATION_TABLE_SIZE,
     /// `sh_entsize` of the table of relocations isn't 16.
-    RelocationEntrySize = 132,
+    RelocationEntrySize = BPFCANON_OBJECT_CAUSE_RELOCATION_ENTRY_SIZE,
     /// `sh_link` of the table of relocations isn't the symbol table.
-    RelocationSymbols = 133,
-    /// The relocation names no symbol, or one that is in no section of code or data.
-    RelocationSymbol = 134,
+    RelocationSymbols = BPFCANON_OBJECT_CAUSE_RELOCATION_SYMBOLS,
+    /// The relocation names no symbol, a source file, or a symbol in a section that isn't code or
+    /// data.
+    RelocationSymbol = BPFCANON_OBJECT_CAUSE_RELOCATION_SYMBOL,
     /// `.BTF` has more than 15,728,640 bytes.
-    TypesTooLarge = 135,
+    TypesTooLarge = BPFCANON_OBJECT_CAUSE_TYPES_TOO_LARGE,
     /// The byte order of `.BTF` isn't that of the file.
-    TypesOrder = 136,
+    TypesOrder = BPFCANON_OBJECT_CAUSE_TYPES_ORDER,
     /// `type_off` of `.BTF` isn't 0.
-    TypesLayout = 137,
+    TypesLayout = BPFCANON_OBJECT_CAUSE_TYPES_LAYOUT,
     /// A `name_off` of `.BTF` that isn't 0 leads to an empty string.
-    TypesName = 138,
+    TypesName = BPFCANON_OBJECT_CAUSE_TYPES_NAME,
     /// A DATASEC has a reserved name.
-    TypesSection = 139,
+    TypesSection = BPFCANON_OBJECT_CAUSE_TYPES_SECTION,
     /// The `kind_flag` of a struct or union without bit-fields isn't 0.
-    TypesFlag = 140,
+    TypesFlag = BPFCANON_OBJECT_CAUSE_TYPES_FLAG,
     /// There is a `.BTF.ext`, and no `.BTF`.
-    ExtensionWithoutTypes = 141,
+    ExtensionWithoutTypes = BPFCANON_OBJECT_CAUSE_EXTENSION_WITHOUT_TYPES,
     /// `.BTF.ext` has fewer than 32 bytes.
-    ExtensionCut = 142,
+    ExtensionCut = BPFCANON_OBJECT_CAUSE_EXTENSION_CUT,
     /// `.BTF.ext` doesn't begin with its magic number in the byte order of the file.
-    ExtensionMagic = 143,
+    ExtensionMagic = BPFCANON_OBJECT_CAUSE_EXTENSION_MAGIC,
     /// The version of `.BTF.ext` isn't 1.
-    ExtensionVersion = 144,
+    ExtensionVersion = BPFCANON_OBJECT_CAUSE_EXTENSION_VERSION,
     /// The flags of `.BTF.ext` aren't 0.
-    ExtensionFlags = 145,
+    ExtensionFlags = BPFCANON_OBJECT_CAUSE_EXTENSION_FLAGS,
     /// `hdr_len` of `.BTF.ext` is under 32, or not less than the section.
-    ExtensionHeaderSize = 146,
+    ExtensionHeaderSize = BPFCANON_OBJECT_CAUSE_EXTENSION_HEADER_SIZE,
     /// A part of `.BTF.ext` isn't inside the section, or not aligned to 4 bytes.
-    ExtensionPart = 147,
-    /// The records of a part of `.BTF.ext` don't have the size of the part.
-    ExtensionRecordSize = 148,
+    ExtensionPart = BPFCANON_OBJECT_CAUSE_EXTENSION_PART,
+    /// The record size of a part of `.BTF.ext` isn't 8 (functions) or 16 (lines, CO-RE
+    /// relocations).
+    ExtensionRecordSize = BPFCANON_OBJECT_CAUSE_EXTENSION_RECORD_SIZE,
     /// A group of records extends past the end of its part, or is empty.
-    ExtensionGroup = 149,
-    /// A string of `.BTF.ext` isn't inside the strings of `.BTF`, or no section can have this name.
-    ExtensionString = 150,
-    /// Functions and source lines don't belong to one another.
-    ExtensionLines = 151,
-    /// The canonical file, or its `.BTF`, is larger than a file may be.
-    ResultTooLarge = 152,
+    ExtensionGroup = BPFCANON_OBJECT_CAUSE_EXTENSION_GROUP,
+    /// A string of `.BTF.ext` isn't inside the strings of `.BTF`, or is too long for the name of a
+    /// section.
+    ExtensionString = BPFCANON_OBJECT_CAUSE_EXTENSION_STRING,
+    /// Functions and source lines of `.BTF.ext` don't match.
+    ExtensionLines = BPFCANON_OBJECT_CAUSE_EXTENSION_LINES,
+    /// The canonical file has more than 64 MiB, or its `.BTF` more than 15 MiB.
+    ResultTooLarge = BPFCANON_OBJECT_CAUSE_RESULT_TOO_LARGE,
     ;
     /// `.BTF` has this fault by itself.
-    Types(btf::Cause) below 101
+    Types(btf::Cause) below BPFCANON_OBJECT_CAUSE_FILE_TOO_LARGE
 }
 
 /// Returns the canonical file of an object file. It may be longer than that.
@@ -154,7 +157,7 @@ call::causes! {
 /// # Errors
 ///
 /// The first fault of the file, or out of memory.
-pub fn canonical(file: &[u8]) -> Result<Vec<u8>, Error> {
+pub fn canon(file: &[u8]) -> Result<Vec<u8>, Error> {
     written(file, file.len(), sys::bpfcanon_object_canon)
 }
 
@@ -190,22 +193,15 @@ pub fn same(first: &[u8], second: &[u8]) -> Result<bool, Error> {
 pub fn check(file: &[u8]) -> Result<(), Error> {
     // SAFETY: the slice is valid for the call.
     let answer = unsafe { sys::bpfcanon_object_check(file.as_ptr(), file.len()) };
-    match answer.status {
-        sys::DONE => Ok(()),
-        _ => Err(Error::of(&answer, answer.pos)),
-    }
+    call::done(answer).map(drop)
 }
 
 /// A call that writes what it makes of an object file.
-type Call = unsafe extern "C" fn(*const u8, usize, *mut u8, usize) -> sys::Answer;
+type Call = unsafe extern "C" fn(*const u8, usize, *mut u8, usize) -> sys::bpfcanon_answer;
 
 fn written(file: &[u8], capacity: usize, call: Call) -> Result<Vec<u8>, Error> {
-    call::output(
-        capacity,
-        |it| it.pos,
-        |out, capacity| {
-            // SAFETY: the slice and the buffer are valid for the call, and don't overlap.
-            unsafe { call(file.as_ptr(), file.len(), out, capacity) }
-        },
-    )
+    call::output(capacity, |out, capacity| {
+        // SAFETY: the slice and the buffer are valid for the call, and don't overlap.
+        unsafe { call(file.as_ptr(), file.len(), out, capacity) }
+    })
 }

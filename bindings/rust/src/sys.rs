@@ -1,74 +1,415 @@
-//! The calls of `bpfcanon.h` that this crate makes, and the structs that they return.
+//! What `capi/bpfcanon.h` declares. `tools/to_rust` makes this file.
 
-use crate::records::{InsnRecord, ItemRecord, TypeRecord};
-use std::os::raw::c_char;
-
-pub(crate) const DONE: u32 = 0;
-pub(crate) const DIFFERENT: u32 = 1;
-pub(crate) const FAULT: u32 = 2;
-pub(crate) const FAULT_SECOND: u32 = 3;
-pub(crate) const MEMORY: u32 = 4;
-pub(crate) const ROOM: u32 = 5;
-
-/// `bpfcanon_answer`.
+pub const BPFCANON_BTF_MAX: u32 = 50335744;
+pub const BPFCANON_OBJECT_MAX: u32 = 67108864;
+pub const BPFCANON_KEY_SIZE: u32 = 32;
+pub const BPFCANON_ORDER_LITTLE: bpfcanon_order = 0;
+pub const BPFCANON_ORDER_BIG: bpfcanon_order = 1;
+pub type bpfcanon_order = u32;
+pub const BPFCANON_STATUS_DONE: bpfcanon_status = 0;
+pub const BPFCANON_STATUS_DIFFERENT: bpfcanon_status = 1;
+pub const BPFCANON_STATUS_FAULT: bpfcanon_status = 2;
+pub const BPFCANON_STATUS_FAULT_SECOND: bpfcanon_status = 3;
+pub const BPFCANON_STATUS_OUT_OF_MEMORY: bpfcanon_status = 4;
+pub const BPFCANON_STATUS_ROOM: bpfcanon_status = 5;
+pub const BPFCANON_STATUS_ORDER: bpfcanon_status = 6;
+pub const BPFCANON_STATUS_ALIGNMENT: bpfcanon_status = 7;
+pub type bpfcanon_status = u32;
+pub const BPFCANON_INSN_CAUSE_TRUNCATED: bpfcanon_insn_cause = 1;
+pub const BPFCANON_INSN_CAUSE_OPCODE: bpfcanon_insn_cause = 2;
+pub const BPFCANON_INSN_CAUSE_DST: bpfcanon_insn_cause = 3;
+pub const BPFCANON_INSN_CAUSE_SRC: bpfcanon_insn_cause = 4;
+pub const BPFCANON_INSN_CAUSE_OFFSET: bpfcanon_insn_cause = 5;
+pub const BPFCANON_INSN_CAUSE_IMM: bpfcanon_insn_cause = 6;
+pub const BPFCANON_INSN_CAUSE_RESERVED: bpfcanon_insn_cause = 7;
+pub const BPFCANON_INSN_CAUSE_NEXT_IMM: bpfcanon_insn_cause = 8;
+pub type bpfcanon_insn_cause = u32;
+pub const BPFCANON_LINE_CAUSE_CHAR: bpfcanon_line_cause = 1;
+pub const BPFCANON_LINE_CAUSE_WORD: bpfcanon_line_cause = 2;
+pub const BPFCANON_LINE_CAUSE_SHAPE: bpfcanon_line_cause = 3;
+pub const BPFCANON_LINE_CAUSE_RANGE: bpfcanon_line_cause = 4;
+pub type bpfcanon_line_cause = u32;
+pub const BPFCANON_BTF_CAUSE_SHORT_HEADER: bpfcanon_btf_cause = 1;
+pub const BPFCANON_BTF_CAUSE_MAGIC: bpfcanon_btf_cause = 2;
+pub const BPFCANON_BTF_CAUSE_VERSION: bpfcanon_btf_cause = 3;
+pub const BPFCANON_BTF_CAUSE_FLAGS: bpfcanon_btf_cause = 4;
+pub const BPFCANON_BTF_CAUSE_HEADER_LENGTH: bpfcanon_btf_cause = 5;
+pub const BPFCANON_BTF_CAUSE_HEADER_TAIL: bpfcanon_btf_cause = 6;
+pub const BPFCANON_BTF_CAUSE_TYPE_LENGTH: bpfcanon_btf_cause = 7;
+pub const BPFCANON_BTF_CAUSE_STRING_LENGTH: bpfcanon_btf_cause = 8;
+pub const BPFCANON_BTF_CAUSE_SECTIONS: bpfcanon_btf_cause = 9;
+pub const BPFCANON_BTF_CAUSE_FILE_LENGTH: bpfcanon_btf_cause = 10;
+pub const BPFCANON_BTF_CAUSE_FIRST_STRING: bpfcanon_btf_cause = 11;
+pub const BPFCANON_BTF_CAUSE_LAST_STRING: bpfcanon_btf_cause = 12;
+pub const BPFCANON_BTF_CAUSE_RECORD_CUT: bpfcanon_btf_cause = 13;
+pub const BPFCANON_BTF_CAUSE_INFO_BITS: bpfcanon_btf_cause = 14;
+pub const BPFCANON_BTF_CAUSE_KIND_NUMBER: bpfcanon_btf_cause = 15;
+pub const BPFCANON_BTF_CAUSE_FLAG_SET: bpfcanon_btf_cause = 16;
+pub const BPFCANON_BTF_CAUSE_VLEN: bpfcanon_btf_cause = 17;
+pub const BPFCANON_BTF_CAUSE_TAIL_CUT: bpfcanon_btf_cause = 18;
+pub const BPFCANON_BTF_CAUSE_NAME_RANGE: bpfcanon_btf_cause = 19;
+pub const BPFCANON_BTF_CAUSE_NAME_UTF8: bpfcanon_btf_cause = 20;
+pub const BPFCANON_BTF_CAUSE_NAME_MISSING: bpfcanon_btf_cause = 21;
+pub const BPFCANON_BTF_CAUSE_NAME_UNWANTED: bpfcanon_btf_cause = 22;
+pub const BPFCANON_BTF_CAUSE_TEXTS_TOO_LONG: bpfcanon_btf_cause = 23;
+pub const BPFCANON_BTF_CAUSE_NOT_ZERO: bpfcanon_btf_cause = 24;
+pub const BPFCANON_BTF_CAUSE_SIZE: bpfcanon_btf_cause = 25;
+pub const BPFCANON_BTF_CAUSE_REFERENCE: bpfcanon_btf_cause = 26;
+pub const BPFCANON_BTF_CAUSE_TARGET_KIND: bpfcanon_btf_cause = 27;
+pub const BPFCANON_BTF_CAUSE_INT_WORD: bpfcanon_btf_cause = 28;
+pub const BPFCANON_BTF_CAUSE_MEMBER_INT: bpfcanon_btf_cause = 29;
+pub const BPFCANON_BTF_CAUSE_MEMBER_PLACE: bpfcanon_btf_cause = 30;
+pub const BPFCANON_BTF_CAUSE_LINKAGE: bpfcanon_btf_cause = 31;
+pub const BPFCANON_BTF_CAUSE_COMPONENT: bpfcanon_btf_cause = 32;
+pub type bpfcanon_btf_cause = u32;
+pub const BPFCANON_OBJECT_CAUSE_FILE_TOO_LARGE: bpfcanon_object_cause = 101;
+pub const BPFCANON_OBJECT_CAUSE_FILE_CUT: bpfcanon_object_cause = 102;
+pub const BPFCANON_OBJECT_CAUSE_MAGIC: bpfcanon_object_cause = 103;
+pub const BPFCANON_OBJECT_CAUSE_CLASS: bpfcanon_object_cause = 104;
+pub const BPFCANON_OBJECT_CAUSE_BYTE_ORDER: bpfcanon_object_cause = 105;
+pub const BPFCANON_OBJECT_CAUSE_IDENT_VERSION: bpfcanon_object_cause = 106;
+pub const BPFCANON_OBJECT_CAUSE_FILE_TYPE: bpfcanon_object_cause = 107;
+pub const BPFCANON_OBJECT_CAUSE_MACHINE: bpfcanon_object_cause = 108;
+pub const BPFCANON_OBJECT_CAUSE_FILE_VERSION: bpfcanon_object_cause = 109;
+pub const BPFCANON_OBJECT_CAUSE_HEADER_SIZE: bpfcanon_object_cause = 110;
+pub const BPFCANON_OBJECT_CAUSE_SEGMENTS: bpfcanon_object_cause = 111;
+pub const BPFCANON_OBJECT_CAUSE_SECTION_HEADER_SIZE: bpfcanon_object_cause = 112;
+pub const BPFCANON_OBJECT_CAUSE_SECTION_COUNT: bpfcanon_object_cause = 113;
+pub const BPFCANON_OBJECT_CAUSE_SECTION_TABLE: bpfcanon_object_cause = 114;
+pub const BPFCANON_OBJECT_CAUSE_NAMES_INDEX: bpfcanon_object_cause = 115;
+pub const BPFCANON_OBJECT_CAUSE_FIRST_SECTION: bpfcanon_object_cause = 116;
+pub const BPFCANON_OBJECT_CAUSE_NAMES_TABLE: bpfcanon_object_cause = 117;
+pub const BPFCANON_OBJECT_CAUSE_SECTION_CUT: bpfcanon_object_cause = 118;
+pub const BPFCANON_OBJECT_CAUSE_SECTION_NAME: bpfcanon_object_cause = 119;
+pub const BPFCANON_OBJECT_CAUSE_SECTION_KIND: bpfcanon_object_cause = 120;
+pub const BPFCANON_OBJECT_CAUSE_SECTION_TWICE: bpfcanon_object_cause = 121;
+pub const BPFCANON_OBJECT_CAUSE_RELOCATION_TARGET: bpfcanon_object_cause = 122;
+pub const BPFCANON_OBJECT_CAUSE_NO_SYMBOLS: bpfcanon_object_cause = 123;
+pub const BPFCANON_OBJECT_CAUSE_SYMBOL_TABLE_SIZE: bpfcanon_object_cause = 124;
+pub const BPFCANON_OBJECT_CAUSE_SYMBOL_ENTRY_SIZE: bpfcanon_object_cause = 125;
+pub const BPFCANON_OBJECT_CAUSE_SYMBOL_NAMES: bpfcanon_object_cause = 126;
+pub const BPFCANON_OBJECT_CAUSE_FIRST_SYMBOL: bpfcanon_object_cause = 127;
+pub const BPFCANON_OBJECT_CAUSE_SYMBOL_NAME: bpfcanon_object_cause = 128;
+pub const BPFCANON_OBJECT_CAUSE_SYMBOL_SECTION: bpfcanon_object_cause = 129;
+pub const BPFCANON_OBJECT_CAUSE_SYMBOL_PLACE: bpfcanon_object_cause = 130;
+pub const BPFCANON_OBJECT_CAUSE_RELOCATION_TABLE_SIZE: bpfcanon_object_cause = 131;
+pub const BPFCANON_OBJECT_CAUSE_RELOCATION_ENTRY_SIZE: bpfcanon_object_cause = 132;
+pub const BPFCANON_OBJECT_CAUSE_RELOCATION_SYMBOLS: bpfcanon_object_cause = 133;
+pub const BPFCANON_OBJECT_CAUSE_RELOCATION_SYMBOL: bpfcanon_object_cause = 134;
+pub const BPFCANON_OBJECT_CAUSE_TYPES_TOO_LARGE: bpfcanon_object_cause = 135;
+pub const BPFCANON_OBJECT_CAUSE_TYPES_ORDER: bpfcanon_object_cause = 136;
+pub const BPFCANON_OBJECT_CAUSE_TYPES_LAYOUT: bpfcanon_object_cause = 137;
+pub const BPFCANON_OBJECT_CAUSE_TYPES_NAME: bpfcanon_object_cause = 138;
+pub const BPFCANON_OBJECT_CAUSE_TYPES_SECTION: bpfcanon_object_cause = 139;
+pub const BPFCANON_OBJECT_CAUSE_TYPES_FLAG: bpfcanon_object_cause = 140;
+pub const BPFCANON_OBJECT_CAUSE_EXTENSION_WITHOUT_TYPES: bpfcanon_object_cause = 141;
+pub const BPFCANON_OBJECT_CAUSE_EXTENSION_CUT: bpfcanon_object_cause = 142;
+pub const BPFCANON_OBJECT_CAUSE_EXTENSION_MAGIC: bpfcanon_object_cause = 143;
+pub const BPFCANON_OBJECT_CAUSE_EXTENSION_VERSION: bpfcanon_object_cause = 144;
+pub const BPFCANON_OBJECT_CAUSE_EXTENSION_FLAGS: bpfcanon_object_cause = 145;
+pub const BPFCANON_OBJECT_CAUSE_EXTENSION_HEADER_SIZE: bpfcanon_object_cause = 146;
+pub const BPFCANON_OBJECT_CAUSE_EXTENSION_PART: bpfcanon_object_cause = 147;
+pub const BPFCANON_OBJECT_CAUSE_EXTENSION_RECORD_SIZE: bpfcanon_object_cause = 148;
+pub const BPFCANON_OBJECT_CAUSE_EXTENSION_GROUP: bpfcanon_object_cause = 149;
+pub const BPFCANON_OBJECT_CAUSE_EXTENSION_STRING: bpfcanon_object_cause = 150;
+pub const BPFCANON_OBJECT_CAUSE_EXTENSION_LINES: bpfcanon_object_cause = 151;
+pub const BPFCANON_OBJECT_CAUSE_RESULT_TOO_LARGE: bpfcanon_object_cause = 152;
+pub type bpfcanon_object_cause = u32;
+pub const BPFCANON_GROUP_BASE32: bpfcanon_group = 1;
+pub const BPFCANON_GROUP_BASE64: bpfcanon_group = 2;
+pub const BPFCANON_GROUP_ATOMIC32: bpfcanon_group = 4;
+pub const BPFCANON_GROUP_ATOMIC64: bpfcanon_group = 8;
+pub const BPFCANON_GROUP_DIVMUL32: bpfcanon_group = 16;
+pub const BPFCANON_GROUP_DIVMUL64: bpfcanon_group = 32;
+pub const BPFCANON_GROUP_PACKET: bpfcanon_group = 64;
+pub type bpfcanon_group = u32;
 #[repr(C)]
-#[derive(Clone, Copy, Debug, Default)]
-pub(crate) struct Answer {
-    pub(crate) status: u32,
-    pub(crate) cause: u32,
-    pub(crate) pos: u64,
-    pub(crate) line: u64,
-    pub(crate) read: usize,
-    pub(crate) written: usize,
-    pub(crate) needed: usize,
-    pub(crate) types: u32,
-    pub(crate) groups: u32,
+#[derive(Debug, Default, Copy, Clone, PartialEq, Eq)]
+pub struct bpfcanon_answer {
+    pub status: u32,
+    pub cause: u32,
+    pub offset: u64,
+    pub line: u64,
+    pub read: usize,
+    pub written: usize,
+    pub needed: usize,
+    pub types: u32,
+    pub groups: u32,
 }
-
-const _: () = assert!(std::mem::size_of::<Answer>() == 32 + 3 * std::mem::size_of::<usize>());
-
-#[rustfmt::skip]
+pub const BPFCANON_FORM_ALU: bpfcanon_form = 1;
+pub const BPFCANON_FORM_MOVSX: bpfcanon_form = 2;
+pub const BPFCANON_FORM_NEG: bpfcanon_form = 3;
+pub const BPFCANON_FORM_SWAP: bpfcanon_form = 4;
+pub const BPFCANON_FORM_JUMP: bpfcanon_form = 5;
+pub const BPFCANON_FORM_JUMP_LONG: bpfcanon_form = 6;
+pub const BPFCANON_FORM_BRANCH: bpfcanon_form = 7;
+pub const BPFCANON_FORM_CALL_HELPER: bpfcanon_form = 8;
+pub const BPFCANON_FORM_CALL_LOCAL: bpfcanon_form = 9;
+pub const BPFCANON_FORM_CALL_BTF: bpfcanon_form = 10;
+pub const BPFCANON_FORM_EXIT: bpfcanon_form = 11;
+pub const BPFCANON_FORM_LOAD: bpfcanon_form = 12;
+pub const BPFCANON_FORM_LOAD_SIGNED: bpfcanon_form = 13;
+pub const BPFCANON_FORM_STORE_IMM: bpfcanon_form = 14;
+pub const BPFCANON_FORM_STORE_REG: bpfcanon_form = 15;
+pub const BPFCANON_FORM_ATOMIC: bpfcanon_form = 16;
+pub const BPFCANON_FORM_WIDE: bpfcanon_form = 17;
+pub const BPFCANON_FORM_PACKET_ABS: bpfcanon_form = 18;
+pub const BPFCANON_FORM_PACKET_IND: bpfcanon_form = 19;
+pub type bpfcanon_form = u32;
+pub const BPFCANON_ALU_ADD: bpfcanon_alu = 0;
+pub const BPFCANON_ALU_SUB: bpfcanon_alu = 1;
+pub const BPFCANON_ALU_MUL: bpfcanon_alu = 2;
+pub const BPFCANON_ALU_DIV: bpfcanon_alu = 3;
+pub const BPFCANON_ALU_OR: bpfcanon_alu = 4;
+pub const BPFCANON_ALU_AND: bpfcanon_alu = 5;
+pub const BPFCANON_ALU_LSH: bpfcanon_alu = 6;
+pub const BPFCANON_ALU_RSH: bpfcanon_alu = 7;
+pub const BPFCANON_ALU_MOD: bpfcanon_alu = 9;
+pub const BPFCANON_ALU_XOR: bpfcanon_alu = 10;
+pub const BPFCANON_ALU_MOV: bpfcanon_alu = 11;
+pub const BPFCANON_ALU_ARSH: bpfcanon_alu = 12;
+pub const BPFCANON_ALU_SDIV: bpfcanon_alu = 19;
+pub const BPFCANON_ALU_SMOD: bpfcanon_alu = 25;
+pub type bpfcanon_alu = u32;
+pub const BPFCANON_BRANCH_EQ: bpfcanon_branch = 1;
+pub const BPFCANON_BRANCH_GT: bpfcanon_branch = 2;
+pub const BPFCANON_BRANCH_GE: bpfcanon_branch = 3;
+pub const BPFCANON_BRANCH_SET: bpfcanon_branch = 4;
+pub const BPFCANON_BRANCH_NE: bpfcanon_branch = 5;
+pub const BPFCANON_BRANCH_SGT: bpfcanon_branch = 6;
+pub const BPFCANON_BRANCH_SGE: bpfcanon_branch = 7;
+pub const BPFCANON_BRANCH_LT: bpfcanon_branch = 10;
+pub const BPFCANON_BRANCH_LE: bpfcanon_branch = 11;
+pub const BPFCANON_BRANCH_SLT: bpfcanon_branch = 12;
+pub const BPFCANON_BRANCH_SLE: bpfcanon_branch = 13;
+pub type bpfcanon_branch = u32;
+pub const BPFCANON_SWAP_LE: bpfcanon_swap = 212;
+pub const BPFCANON_SWAP_BE: bpfcanon_swap = 220;
+pub const BPFCANON_SWAP_BYTES: bpfcanon_swap = 215;
+pub type bpfcanon_swap = u32;
+pub const BPFCANON_ATOMIC_ADD: bpfcanon_atomic = 0;
+pub const BPFCANON_ATOMIC_OR: bpfcanon_atomic = 64;
+pub const BPFCANON_ATOMIC_AND: bpfcanon_atomic = 80;
+pub const BPFCANON_ATOMIC_XOR: bpfcanon_atomic = 160;
+pub const BPFCANON_ATOMIC_FETCH_ADD: bpfcanon_atomic = 1;
+pub const BPFCANON_ATOMIC_FETCH_OR: bpfcanon_atomic = 65;
+pub const BPFCANON_ATOMIC_FETCH_AND: bpfcanon_atomic = 81;
+pub const BPFCANON_ATOMIC_FETCH_XOR: bpfcanon_atomic = 161;
+pub const BPFCANON_ATOMIC_XCHG: bpfcanon_atomic = 225;
+pub const BPFCANON_ATOMIC_CMPXCHG: bpfcanon_atomic = 241;
+pub type bpfcanon_atomic = u32;
+pub const BPFCANON_WIDE_NUMBER: bpfcanon_wide = 0;
+pub const BPFCANON_WIDE_MAP_FD: bpfcanon_wide = 1;
+pub const BPFCANON_WIDE_MAP_VALUE_FD: bpfcanon_wide = 2;
+pub const BPFCANON_WIDE_VAR_ADDR: bpfcanon_wide = 3;
+pub const BPFCANON_WIDE_CODE_ADDR: bpfcanon_wide = 4;
+pub const BPFCANON_WIDE_MAP_IDX: bpfcanon_wide = 5;
+pub const BPFCANON_WIDE_MAP_VALUE_IDX: bpfcanon_wide = 6;
+pub type bpfcanon_wide = u32;
+#[repr(C)]
+#[derive(Debug, Default, Copy, Clone, PartialEq, Eq)]
+pub struct bpfcanon_insn {
+    pub form: u8,
+    pub op: u8,
+    pub bits: u8,
+    pub from_bits: u8,
+    pub dst: u8,
+    pub src: u8,
+    pub by_reg: u8,
+    pub len: u8,
+    pub off: i16,
+    pub group: u16,
+    pub imm: i32,
+    pub next_imm: i32,
+    pub zero: u32,
+    pub offset: u64,
+}
+pub const BPFCANON_BTF_KIND_INT: bpfcanon_btf_kind = 1;
+pub const BPFCANON_BTF_KIND_PTR: bpfcanon_btf_kind = 2;
+pub const BPFCANON_BTF_KIND_ARRAY: bpfcanon_btf_kind = 3;
+pub const BPFCANON_BTF_KIND_STRUCT: bpfcanon_btf_kind = 4;
+pub const BPFCANON_BTF_KIND_UNION: bpfcanon_btf_kind = 5;
+pub const BPFCANON_BTF_KIND_ENUM: bpfcanon_btf_kind = 6;
+pub const BPFCANON_BTF_KIND_FWD: bpfcanon_btf_kind = 7;
+pub const BPFCANON_BTF_KIND_TYPEDEF: bpfcanon_btf_kind = 8;
+pub const BPFCANON_BTF_KIND_VOLATILE: bpfcanon_btf_kind = 9;
+pub const BPFCANON_BTF_KIND_CONST: bpfcanon_btf_kind = 10;
+pub const BPFCANON_BTF_KIND_RESTRICT: bpfcanon_btf_kind = 11;
+pub const BPFCANON_BTF_KIND_FUNC: bpfcanon_btf_kind = 12;
+pub const BPFCANON_BTF_KIND_FUNC_PROTO: bpfcanon_btf_kind = 13;
+pub const BPFCANON_BTF_KIND_VAR: bpfcanon_btf_kind = 14;
+pub const BPFCANON_BTF_KIND_DATASEC: bpfcanon_btf_kind = 15;
+pub const BPFCANON_BTF_KIND_FLOAT: bpfcanon_btf_kind = 16;
+pub const BPFCANON_BTF_KIND_DECL_TAG: bpfcanon_btf_kind = 17;
+pub const BPFCANON_BTF_KIND_TYPE_TAG: bpfcanon_btf_kind = 18;
+pub const BPFCANON_BTF_KIND_ENUM64: bpfcanon_btf_kind = 19;
+pub type bpfcanon_btf_kind = u32;
+#[repr(C)]
+#[derive(Debug, Default, Copy, Clone, PartialEq, Eq)]
+pub struct bpfcanon_btf_type {
+    pub kind: u8,
+    pub flag: u8,
+    pub encoding: u8,
+    pub linkage: u8,
+    pub bit_offset: u8,
+    pub bits: u8,
+    pub items: u16,
+    pub name: u32,
+    pub name_len: u32,
+    pub size: u32,
+    pub target: u32,
+    pub index_type: u32,
+    pub elements: u32,
+    pub component: i32,
+    pub first: u32,
+}
+pub const BPFCANON_BTF_ENCODING_PLAIN: bpfcanon_btf_encoding = 0;
+pub const BPFCANON_BTF_ENCODING_SIGNED: bpfcanon_btf_encoding = 1;
+pub const BPFCANON_BTF_ENCODING_CHAR: bpfcanon_btf_encoding = 2;
+pub const BPFCANON_BTF_ENCODING_BOOL: bpfcanon_btf_encoding = 4;
+pub type bpfcanon_btf_encoding = u32;
+pub const BPFCANON_BTF_LINKAGE_STATIC: bpfcanon_btf_linkage = 0;
+pub const BPFCANON_BTF_LINKAGE_GLOBAL: bpfcanon_btf_linkage = 1;
+pub const BPFCANON_BTF_LINKAGE_EXTERN: bpfcanon_btf_linkage = 2;
+pub type bpfcanon_btf_linkage = u32;
+pub const BPFCANON_BTF_ITEM_KIND_MEMBER: bpfcanon_btf_item_kind = 1;
+pub const BPFCANON_BTF_ITEM_KIND_ENUM_VALUE: bpfcanon_btf_item_kind = 2;
+pub const BPFCANON_BTF_ITEM_KIND_ENUM64_VALUE: bpfcanon_btf_item_kind = 3;
+pub const BPFCANON_BTF_ITEM_KIND_PARAM: bpfcanon_btf_item_kind = 4;
+pub const BPFCANON_BTF_ITEM_KIND_ENTRY: bpfcanon_btf_item_kind = 5;
+pub type bpfcanon_btf_item_kind = u32;
+#[repr(C)]
+#[derive(Debug, Default, Copy, Clone, PartialEq, Eq)]
+pub struct bpfcanon_btf_item {
+    pub name: u32,
+    pub name_len: u32,
+    pub target: u32,
+    pub bit_offset: u32,
+    pub width: u32,
+    pub offset: u32,
+    pub size: u32,
+    pub kind: u32,
+    pub value: u64,
+}
 extern "C" {
-    pub(crate) fn bpfcanon_btf_canon(
-        to: u32, bytes: *const u8, len: usize, out: *mut u8, room: usize) -> Answer;
-    pub(crate) fn bpfcanon_btf_check(bytes: *const u8, len: usize) -> Answer;
-    pub(crate) fn bpfcanon_btf_decode(
-        bytes: *const u8, len: usize, types: *mut TypeRecord, types_room: usize,
-        items: *mut ItemRecord, items_room: usize) -> Answer;
-    pub(crate) fn bpfcanon_btf_same(
-        first: *const u8, first_len: usize, second: *const u8, second_len: usize) -> Answer;
-    pub(crate) fn bpfcanon_btf_show(
-        bytes: *const u8, len: usize, out: *mut c_char, room: usize) -> Answer;
-    pub(crate) fn bpfcanon_insn_canon(
-        order: u32, to: u32, bytes: *const u8, len: usize, out: *mut u8, room: usize) -> Answer;
-    pub(crate) fn bpfcanon_insn_decode(
-        order: u32, bytes: *const u8, len: usize, out: *mut InsnRecord, room: usize) -> Answer;
-    pub(crate) fn bpfcanon_insn_encode(
-        to: u32, insns: *const InsnRecord, count: usize, out: *mut u8, room: usize) -> Answer;
-    pub(crate) fn bpfcanon_insn_front(
-        order: u32, to: u32, bytes: *const u8, len: usize, out: *mut u8, room: usize) -> Answer;
-    pub(crate) fn bpfcanon_insn_groups(order: u32, bytes: *const u8, len: usize) -> Answer;
-    pub(crate) fn bpfcanon_insn_read(
-        to: u32, text: *const c_char, len: usize, out: *mut u8, room: usize) -> Answer;
-    pub(crate) fn bpfcanon_insn_same(
-        first_order: u32, first: *const u8, first_len: usize,
-        second_order: u32, second: *const u8, second_len: usize) -> Answer;
-    pub(crate) fn bpfcanon_insn_show(
-        order: u32, bytes: *const u8, len: usize, out: *mut c_char, room: usize) -> Answer;
-    pub(crate) fn bpfcanon_object_canon(
-        bytes: *const u8, len: usize, out: *mut u8, room: usize) -> Answer;
-    pub(crate) fn bpfcanon_object_check(bytes: *const u8, len: usize) -> Answer;
-    pub(crate) fn bpfcanon_object_key(
-        bytes: *const u8, len: usize, out: *mut u8, room: usize) -> Answer;
-    pub(crate) fn bpfcanon_object_same(
-        first: *const u8, first_len: usize, second: *const u8, second_len: usize) -> Answer;
-    pub(crate) fn bpfcanon_version() -> *const c_char;
-    pub(crate) fn bpfcanon_insn_cause_name(cause: u32) -> *const c_char;
-    pub(crate) fn bpfcanon_insn_cause_text(cause: u32) -> *const c_char;
-    pub(crate) fn bpfcanon_line_cause_name(cause: u32) -> *const c_char;
-    pub(crate) fn bpfcanon_line_cause_text(cause: u32) -> *const c_char;
-    pub(crate) fn bpfcanon_btf_cause_name(cause: u32) -> *const c_char;
-    pub(crate) fn bpfcanon_btf_cause_text(cause: u32) -> *const c_char;
-    pub(crate) fn bpfcanon_object_cause_name(cause: u32) -> *const c_char;
-    pub(crate) fn bpfcanon_object_cause_text(cause: u32) -> *const c_char;
+    pub fn bpfcanon_btf_canon(
+        to: u32,
+        bytes: *const u8,
+        len: usize,
+        out: *mut u8,
+        capacity: usize,
+    ) -> bpfcanon_answer;
+    pub fn bpfcanon_insn_canon(
+        order: u32,
+        to: u32,
+        bytes: *const u8,
+        len: usize,
+        out: *mut u8,
+        capacity: usize,
+    ) -> bpfcanon_answer;
+    pub fn bpfcanon_btf_check(bytes: *const u8, len: usize) -> bpfcanon_answer;
+    pub fn bpfcanon_insn_groups(order: u32, bytes: *const u8, len: usize) -> bpfcanon_answer;
+    pub fn bpfcanon_btf_same(
+        first: *const u8,
+        first_len: usize,
+        second: *const u8,
+        second_len: usize,
+    ) -> bpfcanon_answer;
+    pub fn bpfcanon_insn_same(
+        first_order: u32,
+        first: *const u8,
+        first_len: usize,
+        second_order: u32,
+        second: *const u8,
+        second_len: usize,
+    ) -> bpfcanon_answer;
+    pub fn bpfcanon_insn_show(
+        order: u32,
+        bytes: *const u8,
+        len: usize,
+        out: *mut ::std::os::raw::c_char,
+        capacity: usize,
+    ) -> bpfcanon_answer;
+    pub fn bpfcanon_insn_read(
+        to: u32,
+        text: *const ::std::os::raw::c_char,
+        len: usize,
+        out: *mut u8,
+        capacity: usize,
+    ) -> bpfcanon_answer;
+    pub fn bpfcanon_btf_show(
+        bytes: *const u8,
+        len: usize,
+        out: *mut ::std::os::raw::c_char,
+        capacity: usize,
+    ) -> bpfcanon_answer;
+    pub fn bpfcanon_insn_front(
+        order: u32,
+        to: u32,
+        bytes: *const u8,
+        len: usize,
+        out: *mut u8,
+        capacity: usize,
+    ) -> bpfcanon_answer;
+    pub fn bpfcanon_insn_decode(
+        order: u32,
+        bytes: *const u8,
+        len: usize,
+        out: *mut bpfcanon_insn,
+        capacity: usize,
+    ) -> bpfcanon_answer;
+    pub fn bpfcanon_insn_encode(
+        to: u32,
+        insns: *const bpfcanon_insn,
+        count: usize,
+        out: *mut u8,
+        capacity: usize,
+    ) -> bpfcanon_answer;
+    pub fn bpfcanon_btf_decode(
+        bytes: *const u8,
+        len: usize,
+        types: *mut bpfcanon_btf_type,
+        types_capacity: usize,
+        items: *mut bpfcanon_btf_item,
+        items_capacity: usize,
+    ) -> bpfcanon_answer;
+    pub fn bpfcanon_btf_encode(
+        to: u32,
+        types: *const bpfcanon_btf_type,
+        types_count: usize,
+        items: *const bpfcanon_btf_item,
+        items_count: usize,
+        strings: *const ::std::os::raw::c_char,
+        strings_len: usize,
+        out: *mut u8,
+        capacity: usize,
+    ) -> bpfcanon_answer;
+    pub fn bpfcanon_object_canon(
+        bytes: *const u8,
+        len: usize,
+        out: *mut u8,
+        capacity: usize,
+    ) -> bpfcanon_answer;
+    pub fn bpfcanon_object_same(
+        first: *const u8,
+        first_len: usize,
+        second: *const u8,
+        second_len: usize,
+    ) -> bpfcanon_answer;
+    pub fn bpfcanon_object_key(
+        bytes: *const u8,
+        len: usize,
+        out: *mut u8,
+        capacity: usize,
+    ) -> bpfcanon_answer;
+    pub fn bpfcanon_object_check(bytes: *const u8, len: usize) -> bpfcanon_answer;
+    pub fn bpfcanon_version() -> *const ::std::os::raw::c_char;
+    pub fn bpfcanon_insn_cause_name(cause: u32) -> *const ::std::os::raw::c_char;
+    pub fn bpfcanon_insn_cause_text(cause: u32) -> *const ::std::os::raw::c_char;
+    pub fn bpfcanon_line_cause_name(cause: u32) -> *const ::std::os::raw::c_char;
+    pub fn bpfcanon_line_cause_text(cause: u32) -> *const ::std::os::raw::c_char;
+    pub fn bpfcanon_btf_cause_name(cause: u32) -> *const ::std::os::raw::c_char;
+    pub fn bpfcanon_btf_cause_text(cause: u32) -> *const ::std::os::raw::c_char;
+    pub fn bpfcanon_object_cause_name(cause: u32) -> *const ::std::os::raw::c_char;
+    pub fn bpfcanon_object_cause_text(cause: u32) -> *const ::std::os::raw::c_char;
 }

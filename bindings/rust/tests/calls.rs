@@ -40,7 +40,7 @@ fn empty_inputs_are_inputs() {
     assert_eq!(insn::groups(Order::Big, &[]).unwrap(), insn::Groups::empty());
     assert_eq!(insn::same(Order::Big, &[], Order::Little, &[]), Ok(true));
     let fault = *btf::check(&[]).unwrap_err().fault().unwrap();
-    assert_eq!((fault.position(), fault.cause()), (0, btf::Cause::ShortHeader));
+    assert_eq!((fault.offset(), fault.cause()), (0, btf::Cause::ShortHeader));
 }
 
 /// Little-endian BTF of some FWDs with one name.
@@ -120,7 +120,7 @@ fn a_listing_of_short_lines_is_read() {
 }
 
 #[test]
-fn errors_name_the_position_and_the_cause() {
+fn errors_name_the_place_and_the_cause() {
     let cut = &load("flow_table.little.btf")[..100];
     let sum = "hdr_len, type_len and str_len do not add up to the length of the file";
     assert_eq!(btf::check(cut).unwrap_err().to_string(), format!("byte 100: {sum}"));
@@ -146,29 +146,9 @@ fn errors_go_through_dyn_error_and_io_error() {
     assert_eq!(error.kind(), io::ErrorKind::OutOfMemory);
 }
 
-/// A number that the header defines.
-fn number_in_header(name: &str) -> usize {
-    let path = concat!(env!("CARGO_MANIFEST_DIR"), "/../../capi/bpfcanon.h");
-    let header = fs::read_to_string(path).unwrap_or_else(|error| panic!("{path}: {error}"));
-    let start = format!("#define BPFCANON_{name} ");
-    let mut numbers = header.lines().filter_map(|line| line.strip_prefix(&start));
-    numbers.next().unwrap().parse().unwrap()
-}
-
-#[test]
-fn lengths_are_those_of_the_header() {
-    assert_eq!(btf::MAX, number_in_header("BTF_MAX"));
-    assert_eq!(object::MAX, number_in_header("OBJECT_MAX"));
-    assert_eq!(object::KEY_SIZE, number_in_header("KEY_SIZE"));
-}
-
-/// The variants are spelled as the library's names, and neither the header nor the library has
-/// another cause.
+/// The variants are spelled as the library's names, and the library has no other cause.
 #[test]
 fn the_crate_has_every_cause_of_the_library() {
-    let counts = ["INSN_CAUSES", "LINE_CAUSES", "BTF_CAUSES"].map(number_in_header);
-    let own = [insn::Cause::ALL.len(), insn::ListingCause::ALL.len(), btf::Cause::ALL.len()];
-    assert_eq!(own, counts);
     for (at, it) in insn::Cause::ALL.iter().enumerate() {
         assert_eq!((it.number() as usize, it.name()), (at + 1, Some(&*format!("{it:?}"))));
     }
@@ -178,13 +158,13 @@ fn the_crate_has_every_cause_of_the_library() {
     for (at, it) in btf::Cause::ALL.iter().enumerate() {
         assert_eq!((it.number() as usize, it.name()), (at + 1, Some(&*format!("{it:?}"))));
     }
-    assert_eq!(insn::Cause::Other(insn::Cause::ALL.len() as u32 + 1).name(), None);
-    assert_eq!(insn::ListingCause::Other(insn::ListingCause::ALL.len() as u32 + 1).name(), None);
     for (at, it) in object::Cause::ALL.iter().enumerate() {
         assert_eq!((it.number() as usize, it.name()), (at + 101, Some(&*format!("{it:?}"))));
     }
-    assert_eq!(object::Cause::ALL.len() + 100, number_in_header("OBJECT_CAUSES"));
     assert_eq!(object::Cause::Types(btf::Cause::Vlen).name(), Some("Vlen"));
+    assert_eq!(insn::Cause::Other(insn::Cause::ALL.len() as u32 + 1).name(), None);
+    assert_eq!(insn::ListingCause::Other(insn::ListingCause::ALL.len() as u32 + 1).name(), None);
+    assert_eq!(object::Cause::Other(object::Cause::ALL.len() as u32 + 101).name(), None);
     let next = btf::Cause::Other(btf::Cause::ALL.len() as u32 + 1);
     assert_eq!((next.name(), next.description()), (None, None));
     assert_eq!(next.to_string(), format!("cause {}", next.number()));

@@ -56,15 +56,13 @@ fn read_types(file: &[u8]) -> bool {
     };
     for (id, it) in &btf {
         assert_eq!(btf.name(id), Some(it.name()));
-        // Their `len` is that of the records, and each of these is an item.
-        assert_eq!(btf.items(id).count(), btf.items(id).len());
         match btf.resolve(id) {
             Ok((end, resolved)) => assert_eq!(btf.get(end), Some(resolved)),
-            Err(error) => assert_eq!(error, ResolveError::Circle(id)),
+            Err(error) => assert_eq!(error, ResolveError::Cycle(id)),
         }
         assert!(btf.by_name(it.name()).any(|(found, _)| found == id));
     }
-    let types = btf.iter().map(|(id, it)| (it, btf.items(id)));
+    let types = btf.iter().map(|(_, it)| it);
     assert_eq!(btf::encode(Order::Big, types).ok(), btf::canon(Order::Big, file).ok());
     assert_eq!(btf.iter().count(), btf.len());
     assert_eq!(btf.get(TypeId(btf.len() as u32 + 1)), None);

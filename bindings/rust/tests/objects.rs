@@ -35,9 +35,9 @@ fn accepted_files_have_their_keys() {
         let key = object::key(&row.data).unwrap();
         let digits: String = key.iter().map(|byte| format!("{byte:02x}")).collect();
         assert_eq!(digits, row.fields[0], "{}", row.file);
-        let canonical = object::canonical(&row.data).unwrap();
+        let canonical = object::canon(&row.data).unwrap();
         assert_eq!(object::key(&canonical), Ok(key), "{}", row.file);
-        assert_eq!(object::canonical(&canonical).as_ref(), Ok(&canonical), "{}", row.file);
+        assert_eq!(object::canon(&canonical).as_ref(), Ok(&canonical), "{}", row.file);
         assert_eq!(object::check(&row.data), Ok(()), "{}", row.file);
         assert_eq!(object::same(&canonical, &row.data), Ok(true), "{}", row.file);
         let is_same = before.fields[0] == row.fields[0];
@@ -57,7 +57,7 @@ fn fault<T: Debug>(result: Result<T, Error>) -> (bool, String, String) {
         Cause::Types(_) => format!("Types({name})"),
         _ => name.to_string(),
     };
-    (fault.is_in_second(), fault.position().to_string(), cause)
+    (fault.is_in_second(), fault.offset().to_string(), cause)
 }
 
 #[test]
@@ -68,7 +68,7 @@ fn refused_files_have_their_faults() {
             data.resize(length, 0);
         }
         let first = (false, fields[1].clone(), fields[2].clone());
-        assert_eq!(fault(object::canonical(&data)), first, "{file}");
+        assert_eq!(fault(object::canon(&data)), first, "{file}");
         assert_eq!(fault(object::key(&data)), first, "{file}");
         assert_eq!(fault(object::check(&data)), first, "{file}");
         assert_eq!(fault(object::same(&data, good)), first, "{file}");

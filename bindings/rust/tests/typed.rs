@@ -2,7 +2,7 @@
 
 mod rows;
 
-use bpfcanon::btf::{Btf, Item, ResolveError, Type, TypeId};
+use bpfcanon::btf::{Btf, EnumValue, ResolveError, Type, TypeId};
 use bpfcanon::insn::{self, AluOp, Insn, Operand, Program, Reg, WideOf, Width};
 use bpfcanon::Order;
 use rows::load;
@@ -51,7 +51,7 @@ fn resolve_follows_qualifiers_tags_and_typedefs() {
     let int = btf.get(TypeId(1)).unwrap();
     assert!(matches!(int, Type::Int { name: "bc", .. }));
     for id in [1, 2, 3, 4, 5, 6] {
-        assert_eq!(btf.resolve(TypeId(id)), Ok((TypeId(1), int)), "{id}");
+        assert_eq!(btf.resolve(TypeId(id)), Ok((TypeId(1), int.clone())), "{id}");
     }
     assert_eq!(btf.resolve(TypeId(7)), Ok((TypeId::VOID, Type::Void)));
     assert_eq!(btf.resolve(TypeId::VOID), Ok((TypeId::VOID, Type::Void)));
@@ -60,8 +60,8 @@ fn resolve_follows_qualifiers_tags_and_typedefs() {
     assert_eq!(btf.resolve(most), Err(ResolveError::NoSuchType(most)));
 }
 
-/// Circles of 1 to 9 types, with 0 to 9 types that lead to them.
-fn resolve_circles() {
+/// Cycles of 1 to 9 types, with 0 to 9 types that lead to them.
+fn resolve_cycles() {
     for (before, length) in (0..10).flat_map(|it| (1..10).map(move |length| (it, length))) {
         let last = before + length;
         let target = |id| if id == last { before + 1 } else { id + 1 };
@@ -69,22 +69,22 @@ fn resolve_circles() {
         let file = file(&words);
         let btf = Btf::decode(&file).unwrap();
         for id in (1..=last).map(TypeId) {
-            assert_eq!(btf.resolve(id), Err(ResolveError::Circle(id)), "{before} {length}");
+            assert_eq!(btf.resolve(id), Err(ResolveError::Cycle(id)), "{before} {length}");
         }
     }
 }
 
 /// The test fails, and doesn't wait, if one of them is followed without end.
 #[test]
-fn resolve_ends_on_a_circle() {
+fn resolve_ends_on_a_cycle() {
     let (ended, end) = mpsc::channel();
     thread::spawn(move || {
-        resolve_circles();
+        resolve_cycles();
         ended.send(()).unwrap();
     });
     end.recv_timeout(Duration::from_secs(20)).unwrap();
-    let error = ResolveError::Circle(TypeId(3));
-    assert_eq!(error.to_string(), "type 3 leads round a circle");
+    let error = ResolveError::Cycle(TypeId(3));
+    assert_eq!(error.to_string(), "the chain of types from 3 is a cycle");
     assert_eq!(ResolveError::NoSuchType(TypeId(9)).to_string(), "there is no type 9");
 }
 
@@ -93,17 +93,17 @@ fn types_are_found_by_id_and_by_name() {
     let words = [[A, STRUCT, 0], [A, TYPEDEF, 1], [BC, TYPEDEF, 2], [0, CONST, 3]].concat();
     let file = file(&words);
     let btf = Btf::decode(&file).unwrap();
-    let a = Type::Struct { name: "a", size: 0 };
+    let a = Type::Struct { name: "a", size: 0, members: vec![] };
     let typedef = Type::Typedef { name: "a", target: TypeId(1) };
     let found: Vec<_> = btf.by_name("a").collect();
-    assert_eq!(found, [(TypeId(1), a), (TypeId(2), typedef)]);
+    assert_eq!(found, [(TypeId(1), a.clone()), (TypeId(2), typedef)]);
     assert_eq!(btf.by_name("c").count(), 0);
     assert_eq!(btf.by_name("").map(|(id, _)| id.0).collect::<Vec<_>>(), [4]);
     assert_eq!([0, 1, 3, 4].map(|id| btf.name(TypeId(id))), ["", "a", "bc", ""].map(Some));
     assert_eq!(btf.get(TypeId(1)), Some(a));
     assert_eq!(btf.get(TypeId::VOID), Some(Type::Void));
     for id in [5, u32::MAX].map(TypeId) {
-        assert_eq!((btf.get(id), btf.name(id), btf.items(id).len()), (None, None, 0));
+        assert_eq!((btf.get(id), btf.name(id)), (None, None));
     }
 }
 
@@ -123,14 +123,17 @@ fn values_are_signed_if_their_enum_is() {
     let words64 = [A, ENUM64 | 1, 8, A, 0, 1 << 31, A, KIND_FLAG | ENUM64 | 1, 8, A, 0, 1 << 31];
     let file = file(&[&words[..], &words64].concat());
     let btf = Btf::decode(&file).unwrap();
-    let found: Vec<_> = btf.iter().flat_map(|(id, _)| btf.items(id)).collect();
-    let value = |value| Item::EnumValue { name: "a", value };
-    let value64 = |value| Item::Value64 { name: "a", value };
-    assert_eq!(found, [value(4_294_967_295), value(-1), value64(1 << 63), value64(-(1 << 63))]);
+    let found = btf.iter().flat_map(|(_, it)| match it {
+        Type::Enum { values, .. } | Type::Enum64 { values, .. } => values,
+        other => panic!("{other:?}"),
+    });
+    let numbers = [4_294_967_295, -1, i64::MIN, i64::MIN].map(|it| it as u64);
+    let values = numbers.map(|value| EnumValue { name: "a", value });
+    assert_eq!(found.collect::<Vec<_>>(), values);
 }
 
 /// What an iterator returns is the same from each end, by `nth`, and as long as it says.
-fn is_exact<I>(iter: I)
+fn is_exact<I>(mut iter: I)
 where
     I: DoubleEndedIterator + ExactSizeIterator + Clone,
     I::Item: PartialEq + std::fmt::Debug,
@@ -144,7 +147,7 @@ where
         assert_eq!(rest.nth(at).as_ref(), Some(it));
         assert_eq!(rest.len(), all.len() - at - 1);
     }
-    assert_eq!((iter.len(), iter.clone().nth(all.len())), (all.len(), None));
+    assert_eq!((iter.len(), iter.nth(all.len())), (all.len(), None));
 }
 
 #[test]
@@ -154,7 +157,6 @@ fn iterators_know_their_length() {
     is_exact(btf.iter());
     for (id, it) in &btf {
         assert_eq!(btf.get(id), Some(it));
-        is_exact(btf.items(id));
     }
     let program = Program::decode(Order::Big, &bytes).unwrap();
     is_exact(program.iter());
@@ -180,7 +182,7 @@ fn empty_inputs_have_no_values() {
     let btf = Btf::decode(&file).unwrap();
     assert_eq!((btf.is_empty(), btf.len(), btf.iter().next()), (true, 0, None));
     assert_eq!(btf.get(TypeId::VOID), Some(Type::Void));
-    assert_eq!(Btf::decode(&[]).unwrap_err().fault().unwrap().position(), 0);
+    assert_eq!(Btf::decode(&[]).unwrap_err().fault().unwrap().offset(), 0);
 }
 
 /// The bytes are worked out by RFC 9669 sections 3.1, 4.1 and 5.4.
@@ -213,8 +215,8 @@ fn values_print_themselves() {
     let file = file(&[A, STRUCT, 0]);
     let btf = Btf::decode(&file).unwrap();
     assert_eq!(format!("{btf:?}"), "Btf { len: 1, .. }");
-    let types = r#"{TypeId(1): Struct { name: "a", size: 0 }}"#;
-    assert_eq!(format!("{:?} {:?}", btf.iter(), btf.items(TypeId(1))), format!("{types} []"));
+    let types = r#"{TypeId(1): Struct { name: "a", size: 0, members: [] }}"#;
+    assert_eq!(format!("{:?}", btf.iter()), types);
     let bytes = [0x95, 0, 0, 0, 0, 0, 0, 0];
     let program = Program::decode(Order::Little, &bytes).unwrap();
     assert_eq!(format!("{program:?} {:?}", program.iter()), "{0: Exit} {0: Exit}");

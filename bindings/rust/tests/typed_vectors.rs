@@ -3,10 +3,10 @@
 
 mod rows;
 
-use bpfcanon::btf::{self, Btf, Item, Linkage, Type};
+use bpfcanon::btf::{self, Btf, Linkage, Type};
 use bpfcanon::insn::{self, Insn, MovsxForm, Operand, Program, Size, SmallSize, WideOf, Width};
 use rows::{data, load, rows, text, ORDERS};
-use std::fmt::Debug;
+use std::fmt::{Debug, Write};
 
 /// The name of a variant in lower case.
 fn lower(variant: impl Debug) -> String {
@@ -55,6 +55,14 @@ fn movsx(form: MovsxForm) -> &'static str {
     }
 }
 
+fn swap(kind: insn::SwapKind) -> &'static str {
+    match kind {
+        insn::SwapKind::Le => "le",
+        insn::SwapKind::Be => "be",
+        insn::SwapKind::Bytes => "swap",
+    }
+}
+
 fn atomic(op: insn::AtomicOp) -> String {
     let name = lower(op);
     match name.strip_prefix("fetch") {
@@ -82,7 +90,7 @@ fn insn_line(insn: Insn) -> String {
         Insn::Alu { width, op, dst, arg } => format!("{}{} {dst}, {}", lower(op), suffix(width), operand(arg)),
         Insn::Movsx { form, dst, src } => format!("{} {dst}, {src}", movsx(form)),
         Insn::Neg { width, dst } => format!("neg{} {dst}", suffix(width)),
-        Insn::Swap { kind, bits, dst } => format!("{}{} {dst}", lower(kind), &lower(bits)[1..]),
+        Insn::Swap { kind, bits, dst } => format!("{}{} {dst}", swap(kind), &lower(bits)[1..]),
         Insn::Jump { off } => format!("ja {off:+}"),
         Insn::JumpLong { imm } => format!("ja32 {imm:+}"),
         Insn::Branch { width, op, dst, arg, off } => format!("j{}{} {dst}, {}, {off:+}", lower(op), suffix(width), operand(arg)),
@@ -125,7 +133,7 @@ fn quoted(name: &str) -> String {
     for it in name.chars() {
         match it {
             '"' | '\\' => text.extend(['\\', it]),
-            '\0'..='\x1f' | '\x7f' => text += &format!("\\x{:02x}", it as u32),
+            '\0'..='\x1f' | '\x7f' => write!(text, "\\x{:02x}", it as u32).unwrap(),
             _ => text.push(it),
         }
     }
@@ -145,59 +153,65 @@ fn linkage(it: Linkage) -> &'static str {
 }
 
 #[rustfmt::skip]
-fn type_line(it: Type<'_>, items: usize) -> String {
+fn type_line(it: &Type<'_>, items: usize) -> String {
     let name = quoted(it.name());
     match it {
         Type::Void => panic!("void has no line"),
-        Type::Int { size, encoding, offset, bits, .. } =>
-            format!("int {name} size={size} encoding={} offset={offset} bits={bits}", lower(encoding)),
+        Type::Int { size, encoding, bit_offset, bits, .. } =>
+            format!("int {name} size={size} encoding={} offset={bit_offset} bits={bits}", lower(encoding)),
         Type::Ptr { target } => format!("ptr type={target}"),
         Type::Array { target, index, count } => format!("array type={target} index={index} count={count}"),
         Type::Struct { size, .. } => format!("struct {name} size={size} items={items}"),
         Type::Union { size, .. } => format!("union {name} size={size} items={items}"),
-        Type::Enum { signed, size, .. } => format!("enum {name} {} size={size} items={items}", sign(signed)),
-        Type::Fwd { is_union, .. } => format!("fwd {name} {}", if is_union { "union" } else { "struct" }),
+        Type::Enum { signed, size, .. } => format!("enum {name} {} size={size} items={items}", sign(*signed)),
+        Type::Fwd { is_union, .. } => format!("fwd {name} {}", if *is_union { "union" } else { "struct" }),
         Type::Typedef { target, .. } => format!("typedef {name} type={target}"),
         Type::Volatile { target } => format!("volatile type={target}"),
         Type::Const { target } => format!("const type={target}"),
         Type::Restrict { target } => format!("restrict type={target}"),
-        Type::Func { linkage: it, target, .. } => format!("func {name} {} type={target}", linkage(it)),
-        Type::FuncProto { target } => format!("func_proto type={target} items={items}"),
-        Type::Var { target, linkage: it, .. } => format!("var {name} {} type={target}", linkage(it)),
+        Type::Func { linkage: it, target, .. } => format!("func {name} {} type={target}", linkage(*it)),
+        Type::FuncProto { target, .. } => format!("func_proto type={target} items={items}"),
+        Type::Var { target, linkage: it, .. } => format!("var {name} {} type={target}", linkage(*it)),
         Type::Datasec { size, .. } => format!("datasec {name} size={size} items={items}"),
         Type::Float { size, .. } => format!("float {name} size={size}"),
         Type::DeclTag { flag, target, component, .. } => {
             let component = component.map_or(-1, i32::from);
-            format!("decl_tag {name} flag={} type={target} component={component}", u8::from(flag))
+            format!("decl_tag {name} flag={} type={target} component={component}", u8::from(*flag))
         }
-        Type::TypeTag { flag, target, .. } => format!("type_tag {name} flag={} type={target}", u8::from(flag)),
-        Type::Enum64 { signed, size, .. } => format!("enum64 {name} {} size={size} items={items}", sign(signed)),
+        Type::TypeTag { flag, target, .. } => format!("type_tag {name} flag={} type={target}", u8::from(*flag)),
+        Type::Enum64 { signed, size, .. } => format!("enum64 {name} {} size={size} items={items}", sign(*signed)),
     }
 }
 
-fn item_line(item: Item<'_>) -> String {
-    let name = quoted(item.name());
-    match item {
-        Item::Member { target, bit_offset, width, .. } => {
-            format!("member {name} type={target} offset={bit_offset} width={width}")
+/// The line of each member, value, parameter or entry.
+#[rustfmt::skip]
+fn item_lines(it: &Type<'_>) -> Vec<String> {
+    match it {
+        Type::Struct { members, .. } | Type::Union { members, .. } => members.iter().map(|it| {
+            format!("member {} type={} offset={} width={}", quoted(it.name), it.target, it.bit_offset, it.width)
+        }).collect(),
+        Type::Enum { signed: true, values, .. } | Type::Enum64 { signed: true, values, .. } => {
+            values.iter().map(|it| format!("value {} {}", quoted(it.name), it.value as i64)).collect()
         }
-        Item::EnumValue { value, .. } => format!("value {name} {value}"),
-        Item::Value64 { value, .. } => format!("value {name} {value}"),
-        Item::Param { target, .. } => format!("param {name} type={target}"),
-        Item::Entry { target, offset, size } => {
-            format!("entry type={target} offset={offset} size={size}")
+        Type::Enum { values, .. } | Type::Enum64 { values, .. } => {
+            values.iter().map(|it| format!("value {} {}", quoted(it.name), it.value)).collect()
         }
+        Type::FuncProto { params, .. } => {
+            params.iter().map(|it| format!("param {} type={}", quoted(it.name), it.target)).collect()
+        }
+        Type::Datasec { entries, .. } => entries.iter().map(|it| {
+            format!("entry type={} offset={} size={}", it.target, it.offset, it.size)
+        }).collect(),
+        _ => Vec::new(),
     }
 }
 
 fn listing(btf: &Btf<'_>) -> String {
     let mut lines = String::new();
     for (id, it) in btf {
-        let items = btf.items(id);
-        lines += &format!("[{id}] {}\n", type_line(it, items.len()));
-        for item in items {
-            lines += &format!("  {}\n", item_line(item));
-        }
+        let items = item_lines(&it);
+        writeln!(lines, "[{id}] {}", type_line(&it, items.len())).unwrap();
+        items.iter().for_each(|it| writeln!(lines, "  {it}").unwrap());
     }
     lines
 }
@@ -210,7 +224,7 @@ fn types_have_the_fields_of_their_lines() {
             assert_eq!(listing(&btf).as_bytes(), text(&row[5]), "{}", row[0]);
             assert_eq!(btf.len().to_string(), row[4], "{}", row[0]);
             for (to, canonical) in ORDERS.into_iter().zip(&row[2..4]) {
-                let types = btf.iter().map(|(id, it)| (it, btf.items(id)));
+                let types = btf.iter().map(|(_, it)| it);
                 assert_eq!(btf::encode(to, types), Ok(data(canonical)), "{}", row[0]);
             }
         }
@@ -237,7 +251,7 @@ fn faults_are_those_of_the_rows() {
         for (order, field) in ORDERS.into_iter().zip(&row[1..3]) {
             let error = Program::decode(order, &data(field)).unwrap_err();
             let fault = error.fault().unwrap();
-            let found = (fault.position().to_string(), format!("{:?}", fault.cause()));
+            let found = (fault.offset().to_string(), format!("{:?}", fault.cause()));
             assert_eq!(found, (row[3].clone(), row[4].clone()), "{}", row[0]);
         }
     }
@@ -245,7 +259,7 @@ fn faults_are_those_of_the_rows() {
         for file in row[1..3].iter().map(|it| data(it)) {
             let error = Btf::decode(&file).unwrap_err();
             let fault = error.fault().unwrap();
-            let found = (fault.position().to_string(), format!("{:?}", fault.cause()));
+            let found = (fault.offset().to_string(), format!("{:?}", fault.cause()));
             assert_eq!(found, (row[3].clone(), row[4].clone()), "{}", row[0]);
         }
     }

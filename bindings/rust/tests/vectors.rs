@@ -3,7 +3,7 @@
 mod rows;
 
 use bpfcanon::insn::Groups;
-use bpfcanon::{btf, insn, Error, Order};
+use bpfcanon::{btf, insn, Error, Fault, Order};
 use rows::{data, each_row, rows, text, ORDERS};
 use std::fmt::Debug;
 
@@ -20,13 +20,26 @@ fn groups_of(name: &str) -> Groups {
     }
 }
 
-/// A fault as in a row: whether it is in the second of two inputs, its offset or line, and its cause.
-fn fault<T: Debug, C: Copy + Debug>(result: Result<T, Error<C>>) -> (bool, String, String) {
+/// A fault as in a row: whether it is in the second of two inputs, its place, and its cause.
+type InRow = (bool, String, String);
+
+fn fault_at<T: Debug, C: Copy + Debug>(
+    result: Result<T, Error<C>>,
+    place: impl Fn(&Fault<C>) -> u64,
+) -> InRow {
     let fault = match result {
         Err(Error::Fault(fault)) => fault,
         other => panic!("no fault, but {other:?}"),
     };
-    (fault.is_in_second(), fault.position().to_string(), format!("{:?}", fault.cause()))
+    (fault.is_in_second(), place(&fault).to_string(), format!("{:?}", fault.cause()))
+}
+
+fn insn_fault<T: Debug>(result: Result<T, insn::Error>) -> InRow {
+    fault_at(result, Fault::offset)
+}
+
+fn btf_fault<T: Debug>(result: Result<T, btf::Error>) -> InRow {
+    fault_at(result, Fault::offset)
 }
 
 #[test]
@@ -52,11 +65,16 @@ fn faulty_instructions() {
         let second = (true, row[3].clone(), row[4].clone());
         for (order, field) in ORDERS.into_iter().zip(&row[1..3]) {
             let program = data(field);
-            assert_eq!(fault(insn::canon(order, Order::Little, &program)), first, "{}", row[0]);
-            assert_eq!(fault(insn::show(order, &program)), first, "{}", row[0]);
-            assert_eq!(fault(insn::groups(order, &program)), first, "{}", row[0]);
-            assert_eq!(fault(insn::same(order, &program, order, &[])), first, "{}", row[0]);
-            assert_eq!(fault(insn::same(order, &[], order, &program)), second, "{}", row[0]);
+            assert_eq!(
+                insn_fault(insn::canon(order, Order::Little, &program)),
+                first,
+                "{}",
+                row[0]
+            );
+            assert_eq!(insn_fault(insn::show(order, &program)), first, "{}", row[0]);
+            assert_eq!(insn_fault(insn::groups(order, &program)), first, "{}", row[0]);
+            assert_eq!(insn_fault(insn::same(order, &program, order, &[])), first, "{}", row[0]);
+            assert_eq!(insn_fault(insn::same(order, &[], order, &program)), second, "{}", row[0]);
         }
     });
 }
@@ -74,7 +92,12 @@ fn listings() {
 fn faulty_listings() {
     each_row("listing-fault", |row| {
         let expected = (false, row[2].clone(), row[3].clone());
-        assert_eq!(fault(insn::read(Order::Big, text(&row[1]))), expected, "{}", row[0]);
+        assert_eq!(
+            fault_at(insn::read(Order::Big, text(&row[1])), Fault::line),
+            expected,
+            "{}",
+            row[0]
+        );
     });
 }
 
@@ -100,11 +123,11 @@ fn faulty_types() {
         let first = (false, row[3].clone(), row[4].clone());
         let second = (true, row[3].clone(), row[4].clone());
         for file in [data(&row[1]), data(&row[2])] {
-            assert_eq!(fault(btf::canon(Order::Little, &file)), first, "{}", row[0]);
-            assert_eq!(fault(btf::show(&file)), first, "{}", row[0]);
-            assert_eq!(fault(btf::check(&file)), first, "{}", row[0]);
-            assert_eq!(fault(btf::same(&file, &good)), first, "{}", row[0]);
-            assert_eq!(fault(btf::same(&good, &file)), second, "{}", row[0]);
+            assert_eq!(btf_fault(btf::canon(Order::Little, &file)), first, "{}", row[0]);
+            assert_eq!(btf_fault(btf::show(&file)), first, "{}", row[0]);
+            assert_eq!(btf_fault(btf::check(&file)), first, "{}", row[0]);
+            assert_eq!(btf_fault(btf::same(&file, &good)), first, "{}", row[0]);
+            assert_eq!(btf_fault(btf::same(&good, &file)), second, "{}", row[0]);
         }
     });
 }

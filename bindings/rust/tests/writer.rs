@@ -26,7 +26,7 @@ fn fault_of(error: &io::Error) -> (u64, insn::Cause) {
     assert_eq!(error.kind(), io::ErrorKind::InvalidData);
     let error = error.get_ref().unwrap().downcast_ref::<insn::Error>().unwrap();
     let fault = error.fault().unwrap();
-    (fault.position(), fault.cause())
+    (fault.offset(), fault.cause())
 }
 
 #[test]

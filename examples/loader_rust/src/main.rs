@@ -22,7 +22,7 @@ fn verify(key: &[u8], signature: &[u8], object: &[u8]) -> Result<Vec<u8>, Box<dy
         Some(key) if key.len() == 32 => key,
         _ => return Err("the key isn't a public key of Ed25519 in DER".into()),
     };
-    let canonical = bpfcanon::object::canonical(object)?;
+    let canonical = bpfcanon::object::canon(object)?;
     UnparsedPublicKey::new(&ED25519, key)
         .verify(&canonical, signature)
         .map_err(|_| "the signature isn't one of this object by this key")?;

@@ -16,7 +16,7 @@ func fieldsOf(it any) string {
 	value := reflect.ValueOf(it)
 	for i := 0; i < value.NumField(); i++ {
 		name, field := value.Type().Field(i).Name, value.Field(i).Interface()
-		if _, isItems := field.(interface{ Len() int }); !isItems {
+		if value.Field(i).Kind() != reflect.Slice {
 			text = fmt.Appendf(text, " %s=%s", snakeCase(name), valueOf(name, field))
 		}
 	}

@@ -11,40 +11,33 @@ import (
 func writeItems(out io.Writer, it bpfcanon.Type) {
 	switch it := it.(type) {
 	case bpfcanon.Struct:
-		writeMembers(out, it.Members)
+		writeEach(out, "member", it.Members)
 	case bpfcanon.Union:
-		writeMembers(out, it.Members)
+		writeEach(out, "member", it.Members)
 	case bpfcanon.Enum:
-		for i := 0; i < it.Values.Len(); i++ {
-			fmt.Fprintf(out, "  enum_value%s\n", fieldsOf(it.Values.At(i)))
-		}
+		writeValues(out, it.Signed, it.Values)
 	case bpfcanon.Enum64:
-		writeValues64(out, it)
+		writeValues(out, it.Signed, it.Values)
 	case bpfcanon.FuncProto:
-		for i := 0; i < it.Params.Len(); i++ {
-			fmt.Fprintf(out, "  param%s\n", fieldsOf(it.Params.At(i)))
-		}
+		writeEach(out, "param", it.Params)
 	case bpfcanon.Datasec:
-		for i := 0; i < it.Entries.Len(); i++ {
-			fmt.Fprintf(out, "  entry%s\n", fieldsOf(it.Entries.At(i)))
-		}
+		writeEach(out, "entry", it.Entries)
 	}
 }
 
-func writeMembers(out io.Writer, members bpfcanon.Members) {
-	for i := 0; i < members.Len(); i++ {
-		fmt.Fprintf(out, "  member%s\n", fieldsOf(members.At(i)))
+func writeEach[T any](out io.Writer, kind string, items []T) {
+	for _, it := range items {
+		fmt.Fprintf(out, "  %s%s\n", kind, fieldsOf(it))
 	}
 }
 
-// writeValues64 writes the values of an Enum64, which are signed if it is.
-func writeValues64(out io.Writer, enum bpfcanon.Enum64) {
-	for i := 0; i < enum.Values.Len(); i++ {
-		it := enum.Values.At(i)
-		if enum.Signed {
-			fmt.Fprintf(out, "  value64 name=%s value=%d\n", it.Name, int64(it.Value))
-		} else {
-			fmt.Fprintf(out, "  value64 name=%s value=%d\n", it.Name, it.Value)
+// writeValues writes the values of an enum, which are signed if it is.
+func writeValues(out io.Writer, signed bool, values []bpfcanon.EnumValue) {
+	for _, it := range values {
+		number := fmt.Sprint(it.Value)
+		if signed {
+			number = fmt.Sprint(int64(it.Value))
 		}
+		fmt.Fprintf(out, "  enum_value name=%s value=%s\n", it.Name, number)
 	}
 }

@@ -65,7 +65,7 @@ func writeInsns(out io.Writer, order bpfcanon.Order, program []byte) error {
 		return err
 	}
 	for i := 0; i < decoded.Len(); i++ {
-		fmt.Fprintf(out, "%d %v%s\n", decoded.Pos(i), decoded.Form(i), fieldsOf(decoded.At(i)))
+		fmt.Fprintf(out, "%d %v%s\n", decoded.Offset(i), decoded.Form(i), fieldsOf(decoded.At(i)))
 	}
 	return nil
 }
@@ -77,9 +77,8 @@ func writeTypes(out io.Writer, types []byte) error {
 	if err != nil {
 		return err
 	}
-	for id := bpfcanon.ID(1); int(id) <= decoded.Len(); id++ {
-		it := decoded.Type(id)
-		fmt.Fprintf(out, "%d %v%s\n", id, it.Kind(), fieldsOf(it))
+	for i, it := range decoded.Types() {
+		fmt.Fprintf(out, "%d %v%s\n", i+1, it.Kind(), fieldsOf(it))
 		writeItems(out, it)
 	}
 	return nil

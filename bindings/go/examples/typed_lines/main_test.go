@@ -27,7 +27,7 @@ var insns = []struct{ bytes, line string }{
 	{"\x34\x01\x01\x00\xfd\xff\xff\xff", "alu width=w32 op=sdiv dst=r1 arg=-3"},
 	{"\xbf\x21\x20\x00\x00\x00\x00\x00", "movsx form=w64_from32 dst=r1 src=r2"},
 	{"\x84\x0a\x00\x00\x00\x00\x00\x00", "neg width=w32 dst=r10"},
-	{"\xd7\x01\x00\x00\x10\x00\x00\x00", "swap kind=swap bits=b16 dst=r1"},
+	{"\xd7\x01\x00\x00\x10\x00\x00\x00", "swap kind=bytes bits=b16 dst=r1"},
 	{"\x05\x00\xff\xff\x00\x00\x00\x00", "jump off=-1"},
 	{"\x06\x00\x00\x00\x01\x00\x00\x00", "jump_long imm=1"},
 	{"\xd5\x01\x02\x00\xff\xff\xff\xff", "branch width=w64 op=sle dst=r1 arg=-1 off=2"},
@@ -71,7 +71,7 @@ func TestLinesOfTypes(t *testing.T) {
 		"3 struct name=flow size=48\n  member name=source target=4 bit_offset=0 width=0\n",
 		"  member name=closed target=5 bit_offset=160 width=1\n",
 		"\n4 union name=address size=16\n",
-		"\n5 int name=unsigned int size=4 encoding=plain offset=0 bits=32\n",
+		"\n5 int name=unsigned int size=4 encoding=plain bit_offset=0 bits=32\n",
 		"\n7 array target=6 index=8 count=16\n",
 		"\n9 enum name=direction signed=false size=4\n  enum_value name=OUTBOUND value=4294967295\n",
 		"\n12 fwd name=host is_union=false\n",
@@ -94,7 +94,7 @@ func TestLinesOfSignedValues(t *testing.T) {
 		"\x00\x00\x00\x00\x01\x00\x00\x93\x08\x00\x00\x00\x01\x00\x00\x00\xff\xff\xff\xff\xff\xff\xff\xff" +
 		"\x01\x00\x00\x00\x00\x00\x00\x92\x02\x00\x00\x00" + "\x00a\x00"
 	want := "1 enum name= signed=true size=4\n  enum_value name=a value=-1\n" +
-		"2 enum64 name= signed=true size=8\n  value64 name=a value=-1\n3 type_tag name=a flag=true target=2\n"
+		"2 enum64 name= signed=true size=8\n  enum_value name=a value=-1\n3 type_tag name=a flag=true target=2\n"
 	if got, err := linesOf(t, []byte(file), "btf"); got != want || err != nil {
 		t.Errorf("%q, %v, want %q", got, err, want)
 	}

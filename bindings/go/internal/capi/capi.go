@@ -14,38 +14,19 @@ import "unsafe"
 // An Order is the number of a byte order.
 type Order uint32
 
-const (
-	Little Order = C.BPFCANON_LITTLE
-	Big    Order = C.BPFCANON_BIG
-)
-
 // A Status is how a call ended.
 type Status uint32
 
 const (
-	Done        Status = C.BPFCANON_DONE
-	Different   Status = C.BPFCANON_DIFFERENT
-	Fault       Status = C.BPFCANON_FAULT
-	FaultSecond Status = C.BPFCANON_FAULT_SECOND
-	Memory      Status = C.BPFCANON_MEMORY
-	Room        Status = C.BPFCANON_ROOM
-	BadOrder    Status = C.BPFCANON_ORDER
-	Alignment   Status = C.BPFCANON_ALIGNMENT
+	Done        Status = C.BPFCANON_STATUS_DONE
+	Different   Status = C.BPFCANON_STATUS_DIFFERENT
+	Fault       Status = C.BPFCANON_STATUS_FAULT
+	FaultSecond Status = C.BPFCANON_STATUS_FAULT_SECOND
+	OutOfMemory Status = C.BPFCANON_STATUS_OUT_OF_MEMORY
+	Room        Status = C.BPFCANON_STATUS_ROOM
+	BadOrder    Status = C.BPFCANON_STATUS_ORDER
+	Alignment   Status = C.BPFCANON_STATUS_ALIGNMENT
 )
-
-// Conformance groups, as bits of a mask.
-const (
-	Base32   = C.BPFCANON_BASE32
-	Base64   = C.BPFCANON_BASE64
-	Atomic32 = C.BPFCANON_ATOMIC32
-	Atomic64 = C.BPFCANON_ATOMIC64
-	Divmul32 = C.BPFCANON_DIVMUL32
-	Divmul64 = C.BPFCANON_DIVMUL64
-	Packet   = C.BPFCANON_PACKET
-)
-
-// BTFMax is the length of the longest BTF that can be valid.
-const BTFMax = C.BPFCANON_BTF_MAX
 
 // ObjectMax is the length of the longest object file that is accepted, and KeySize that of a key.
 const (
@@ -56,10 +37,10 @@ const (
 // The last number of the causes of each kind that the header declares. They start at 1, and those of
 // object files at 101.
 const (
-	InsnCauses   = C.BPFCANON_INSN_CAUSES
-	LineCauses   = C.BPFCANON_LINE_CAUSES
-	BTFCauses    = C.BPFCANON_BTF_CAUSES
-	ObjectCauses = C.BPFCANON_OBJECT_CAUSES
+	InsnCauses   = C.BPFCANON_INSN_CAUSE_MAX
+	LineCauses   = C.BPFCANON_LINE_CAUSE_MAX
+	BTFCauses    = C.BPFCANON_BTF_CAUSE_MAX
+	ObjectCauses = C.BPFCANON_OBJECT_CAUSE_MAX
 )
 
 // HeaderVersion is the version of the header that this package was compiled with.
@@ -69,7 +50,7 @@ const HeaderVersion = C.BPFCANON_VERSION
 type Answer struct {
 	Status  Status
 	Cause   uint32
-	Pos     uint64
+	Offset  uint64
 	Line    uint64
 	Read    int
 	Written int
@@ -97,7 +78,7 @@ func size(b []byte) C.size_t {
 
 func answer(a C.bpfcanon_answer) Answer {
 	return Answer{
-		Status(a.status), uint32(a.cause), uint64(a.pos), uint64(a.line),
+		Status(a.status), uint32(a.cause), uint64(a.offset), uint64(a.line),
 		int(a.read), int(a.written), int(a.needed), uint32(a.types), uint32(a.groups),
 	}
 }

@@ -14,22 +14,22 @@ import (
 
 // An Insn is a bpfcanon_insn.
 type Insn struct {
-	Form, Op, Bits, From, Dst, Src, ByReg, Len uint8
-	Off                                        int16
-	Group                                      uint16
-	Imm, NextImm                               int32
-	Zero                                       uint32
-	Pos                                        uint64
+	Form, Op, Bits, FromBits, Dst, Src, ByReg, Len uint8
+	Off                                            int16
+	Group                                          uint16
+	Imm, NextImm                                   int32
+	Zero                                           uint32
+	Offset                                         uint64
 }
 
 // A BTFType is a bpfcanon_btf_type.
 type BTFType struct {
-	_                                              [0]uint64
-	Kind, Flag, Encoding, Linkage, BitOffset, Bits uint8
-	Items                                          uint16
-	Name, NameLen, Size, Target, Index, Count      uint32
-	Component                                      int32
-	First                                          uint32
+	_                                                [0]uint64
+	Kind, Flag, Encoding, Linkage, BitOffset, Bits   uint8
+	Items                                            uint16
+	Name, NameLen, Size, Target, IndexType, Elements uint32
+	Component                                        int32
+	First                                            uint32
 }
 
 // A BTFItem is a bpfcanon_btf_item.
@@ -80,4 +80,9 @@ func InsnEncode(to Order, insns []Insn, out []byte) Answer {
 func BTFDecode(file []byte, types []BTFType, items []BTFItem) Answer {
 	return answer(C.bpfcanon_btf_decode(start(file), size(file),
 		typeStart(types), C.size_t(len(types)), itemStart(items), C.size_t(len(items))))
+}
+
+func BTFEncode(to Order, types []BTFType, items []BTFItem, strings, out []byte) Answer {
+	return answer(C.bpfcanon_btf_encode(C.uint32_t(to), typeStart(types), C.size_t(len(types)),
+		itemStart(items), C.size_t(len(items)), textStart(strings), size(strings), start(out), size(out)))
 }

@@ -10,7 +10,7 @@ read both files: of other loaders nothing is known.
 No call reads a path. A program passes the bytes that it then loads, so that nobody can exchange a
 file between the check and the load.
 
-Each call raises a Fault with the first fault of a file that is refused. Its cause is an ObjectCause
+Each call raises a FaultError with the first fault of a file that is refused. Its cause is an ObjectCause
 or, for a fault of .BTF by itself, a BtfCause; its offset counts from the first byte of the file.
 """
 
@@ -18,18 +18,17 @@ from typing import Any
 
 from .. import _library
 from .._library import Buffer
-from ..causes import BtfCause, KnownCause, ObjectCause
+from ..causes import KnownCause
 from ..errors import check as checked
+from ..header import KEY_SIZE, OBJECT_MAX, BtfCause, ObjectCause, Status
 
-__all__ = ["KEY_SIZE", "MAX_SIZE", "canonical", "check", "key", "same"]
+__all__ = ["KEY_SIZE", "MAX_SIZE", "canon", "check", "key", "same"]
 
 # The length in bytes of the longest object file that is accepted, and of the longest canonical one.
-MAX_SIZE = 67_108_864
-# The length of a key in bytes.
-KEY_SIZE = 32
+MAX_SIZE = OBJECT_MAX
 
 
-def canonical(data: Buffer) -> bytes:
+def canon(data: Buffer) -> bytes:
     """Return the canonical file of an object file. It may be longer than that."""
     answer, out = _library.write("object_canon", _library.size_of(data), data)
     _checked(answer)
@@ -48,7 +47,7 @@ def same(first: Buffer, second: Buffer) -> bool:
 
     The fault of the second one is raised if the first has none.
     """
-    return bool(_checked(_library.ask("object_same", first, second)).status == _library.DONE)
+    return bool(_checked(_library.ask("object_same", first, second)).status == Status.DONE)
 
 
 def check(data: Buffer) -> None:

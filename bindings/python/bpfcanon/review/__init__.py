@@ -1,4 +1,4 @@
 """The command bpfcanon-review: what is in accepted BPF object files, as text, and what differs between two.
 
-`bpfcanon.objects.canonical` says which files are accepted, and pyelftools reads the canonical bytes. docs/OBJECTS.md says what these are.
+`bpfcanon.objects.canon` says which files are accepted, and pyelftools reads the canonical bytes. docs/OBJECTS.md says what these are.
 """

@@ -11,7 +11,7 @@ from typing import Any, Iterator, Optional
 from elftools.elf.elffile import ELFFile
 
 from .. import objects
-from ..causes import Order
+from ..header import Order
 from ..type_table import Btf
 from .extension import Extension
 from .labels import Labels, printed
@@ -63,8 +63,8 @@ class Accepted:
     """An object file that has a canonical form."""
 
     def __init__(self, data: bytes) -> None:
-        """Find the canonical bytes of a file. Raises Fault with the rule that the file breaks, OutOfMemory."""
-        self.original, self.canonical = data, objects.canonical(data)
+        """Find the canonical bytes of a file. Raises FaultError with the rule that the file breaks, OutOfMemoryError."""
+        self.original, self.canonical = data, objects.canon(data)
         self._elf = ELFFile(io.BytesIO(self.canonical))
         self.order = Order.LITTLE if self._elf.little_endian else Order.BIG
         self.flags: int = self._elf["e_flags"]

@@ -7,8 +7,8 @@ from typing import Iterator, Optional
 
 import bpfcanon
 
-from ..causes import Order
-from ..errors import Fault
+from ..header import Order
+from ..errors import FaultError
 from ..insn_types import Branch, CallLocal, Insn, Jump, JumpLong, Number, Wide
 
 WINDOW = 4_096  # bytes that are read at once: a fault ends what is read
@@ -45,11 +45,11 @@ def distance_of(value: Optional[Insn]) -> Optional[int]:
 
 
 def instructions(code: bytes, order: Order) -> Iterator[Instruction]:
-    """Yield the instructions of a section. Raises OutOfMemory."""
+    """Yield the instructions of a section. Raises OutOfMemoryError."""
     place = 0
     while place < len(code):
         front = bpfcanon.insn_front(code[place : place + WINDOW], order=order)
-        if front.error and not isinstance(front.error, Fault):
+        if front.error and not isinstance(front.error, FaultError):
             raise front.error
         yield from listed(front.output, place)
         if front.read == 0:

@@ -33,7 +33,7 @@ def shown(path: str, options: argparse.Namespace) -> Iterator[str]:
         yield f"==> {printable(path)} <=="
     try:
         found = Accepted(data)
-    except bpfcanon.Fault as fault:
+    except bpfcanon.FaultError as fault:
         if not options.textconv:
             raise
         yield from (f"refused: {fault}", f"{len(data)} bytes, SHA-256 {hashlib.sha256(data).hexdigest()}")

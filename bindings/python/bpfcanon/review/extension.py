@@ -1,4 +1,4 @@
-"""The records of .BTF.ext of an accepted file, whose form bpfcanon.objects.canonical has checked."""
+"""The records of .BTF.ext of an accepted file, whose form bpfcanon.objects.canon has checked."""
 
 from __future__ import annotations
 
@@ -6,7 +6,7 @@ import struct
 from dataclasses import dataclass
 from typing import Iterator
 
-from ..causes import Order
+from ..header import Order
 
 FUNCTION, LINE, CORE = "2I", "4I", "4I"  # insn_off, and the other words of a record
 

@@ -26,15 +26,15 @@ class Notation:
     def __init__(self, types: Btf) -> None:
         self._types, self._labels = types, Labels()
         self._found = {0: self._labels.next("void")}
-        for id in types.types:
+        for id in range(len(types)):
             self.label(id)
 
     def label(self, id: int, depth: int = 0) -> str:
         """Return what a type is called. An ID that the file doesn't have is its own label."""
         if id not in self._found:
-            if id not in self._types.types or depth > MAX_DEPTH:
+            if id not in range(len(self._types)) or depth > MAX_DEPTH:
                 return f"type {id}"
-            text = self._text(self._types.type(id), depth + 1)
+            text = self._text(self._types[id], depth + 1)
             # A type that leads back to itself has its label by now.
             if id not in self._found:
                 self._found[id] = self._labels.next(text if len(text) <= MAX_LABEL else f"type {id}")
@@ -57,7 +57,7 @@ class Notation:
 
     def lines(self, id: int) -> Iterator[str]:
         """Yield the definition of a type: a line with all of its fields, and one for each of its items."""
-        it = self._types.type(id)
+        it = self._types[id]
         yield self._fields(it)
         for field in dataclasses.fields(it):
             value = getattr(it, field.name)

@@ -54,7 +54,7 @@ def part(kind: str, name: str, texts: Iterable[str]) -> Part:
 
 
 def parts(object: Accepted) -> Iterator[Part]:
-    """Yield the parts of an object file. Raises OutOfMemory."""
+    """Yield the parts of an object file. Raises OutOfMemoryError."""
     yield part("file", "header", [f"\torder={object.order.name.lower()} flags={object.flags:#x}", f"\tkey={object.key}"])
     notation = Notation(object.types) if object.types else None
     listing = Listing(object, notation)
@@ -64,7 +64,7 @@ def parts(object: Accepted) -> Iterator[Part]:
     yield from table_parts(listing)
     yield part("symbols", "in sequence", map(symbol_line, object.symbols[1:]))
     if notation and object.types:
-        yield from (part("type", notation.label(id), (f"\t{it}" for it in notation.lines(id))) for id in object.types.types)
+        yield from (part("type", notation.label(id), (f"\t{it}" for it in notation.lines(id))) for id in range(1, len(object.types)))
 
 
 def code_parts(listing: Listing, section: Section) -> Iterator[Part]:

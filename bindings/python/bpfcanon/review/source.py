@@ -9,7 +9,7 @@ from functools import cached_property
 from elftools.common.exceptions import ELFError
 from elftools.elf.elffile import ELFFile
 
-from ..causes import Order
+from ..header import Order
 from .extension import Extension
 from .labels import printable
 

@@ -1,9 +1,13 @@
 //! From types to BTF.
 
-use super::writer::{Refused, Writer};
-use super::{Cause, Error, Item, Type};
-use crate::Order;
+use super::{Cause, Error, Type, TypeId};
+use crate::records::TypeRecord;
+use crate::sys::*;
+use crate::{call, Order};
+use std::borrow::Borrow;
+use std::collections::{HashMap, TryReserveError};
 use std::fmt;
+use std::num::TryFromIntError;
 
 /// Why [`encode`] returns no BTF.
 #[derive(Clone, Copy, Debug, PartialEq, Eq, Hash)]
@@ -14,8 +18,8 @@ pub enum EncodeError {
         /// The index of the type, counted from 0. Its ID is one more.
         index: usize,
         /// What is wrong, for example [`Cause::Reference`] if an ID is over the number of types.
-        /// None for a type that no BTF holds: void, or one with an item of another kind, a name
-        /// with a NUL, a number that its field can't hold, or more than 65,535 items.
+        /// None for a type that no BTF holds: one with a name with a NUL, a number that its field
+        /// can't hold, or more than 65,535 members, values, parameters or entries.
         cause: Option<Cause>,
     },
     /// The call failed, for example because it ran out of memory.
@@ -38,8 +42,7 @@ impl fmt::Display for EncodeError {
 
 impl std::error::Error for EncodeError {}
 
-/// Returns the canonical form of the BTF that has these types, each with its items, in the byte
-/// order `to`.
+/// Returns the canonical form of the BTF that has these types, in the byte order `to`.
 ///
 /// If `to` is [`Order::Little`] these are its canonical bytes. The first type has the ID 1, and
 /// types refer to each other by their IDs. The names, each counted once and with a NUL, are at most
@@ -47,19 +50,19 @@ impl std::error::Error for EncodeError {}
 ///
 /// # Errors
 ///
-/// [`EncodeError::Type`] for the first type that no BTF holds or that exceeds a limit, or else for
-/// the first that has a fault; or out of memory.
+/// [`EncodeError::Type`] for a type that exceeds a limit, that has a fault or that no BTF holds; or
+/// out of memory.
 ///
 /// ```
-/// use bpfcanon::btf::{self, Cause, EncodeError, Encoding, Item, Type, TypeId};
+/// use bpfcanon::btf::{self, Cause, EncodeError, Encoding, Member, Type, TypeId};
 /// use bpfcanon::Order;
 ///
-/// let int = Type::Int { name: "int", size: 4, encoding: Encoding::Signed, offset: 0, bits: 32 };
-/// let point = Type::Struct { name: "point", size: 8 };
-/// let at = |name, target, bit_offset| Item::Member { name, target, bit_offset, width: 0 };
-///
-/// let members = vec![at("x", TypeId(1), 0), at("y", TypeId(1), 32)];
-/// let file = btf::encode(Order::Little, [(int, vec![]), (point, members)])?;
+/// let (encoding, int) = (Encoding::Signed, TypeId(1));
+/// let member = |name, bit_offset| Member { name, target: int, bit_offset, width: 0 };
+/// let file = btf::encode(Order::Little, [
+///     Type::Int { name: "int", size: 4, encoding, bit_offset: 0, bits: 32 },
+///     Type::Struct { name: "point", size: 8, members: vec![member("x", 0), member("y", 32)] },
+/// ])?;
 /// assert_eq!(
 ///     btf::show(&file)?,
 ///     r#"[1] int "int" size=4 encoding=signed offset=0 bits=32
@@ -69,29 +72,148 @@ impl std::error::Error for EncodeError {}
 /// "#
 /// );
 ///
-/// let error = btf::encode(Order::Little, [(Type::Ptr { target: TypeId(2) }, [])]).unwrap_err();
+/// let error = btf::encode(Order::Little, [Type::Ptr { target: TypeId(2) }]).unwrap_err();
 /// assert_eq!(error, EncodeError::Type { index: 0, cause: Some(Cause::Reference) });
 /// # Ok::<(), Box<dyn std::error::Error>>(())
 /// ```
-pub fn encode<'a, T, I>(to: Order, types: T) -> Result<Vec<u8>, EncodeError>
+pub fn encode<'a, T>(to: Order, types: T) -> Result<Vec<u8>, EncodeError>
 where
-    T: IntoIterator<Item = (Type<'a>, I)>,
-    I: IntoIterator<Item = Item<'a>>,
+    T: IntoIterator,
+    T::Item: Borrow<Type<'a>>,
 {
-    let mut writer = Writer::default();
-    for (index, (it, items)) in types.into_iter().enumerate() {
-        writer.write(it, items).map_err(|refused| match refused {
-            Refused::Memory => EncodeError::Library(Error::OutOfMemory),
+    let types = types.into_iter();
+    let mut records = Records::default();
+    let out_of_memory = |_| EncodeError::Library(Error::OutOfMemory);
+    records.types.try_reserve(types.size_hint().0).map_err(out_of_memory)?;
+    records.offsets.try_reserve(types.size_hint().0).map_err(out_of_memory)?;
+    for (index, it) in types.enumerate() {
+        records.push(it.borrow()).map_err(|refused| match refused {
             Refused::NoType => EncodeError::Type { index, cause: None },
-            Refused::TooLong(cause) => EncodeError::Type { index, cause: Some(cause) },
+            Refused::Memory => EncodeError::Library(Error::OutOfMemory),
         })?;
     }
-    let file = writer.file().map_err(|_| EncodeError::Library(Error::OutOfMemory))?;
-    super::canon(to, &file).map_err(|error| match error {
-        Error::Fault(fault) => {
-            let index = writer.index_at(fault.position());
-            EncodeError::Type { index, cause: Some(fault.cause()) }
-        }
+    records.encode(to).map_err(|error| match error {
+        Error::Fault(fault) => EncodeError::Type {
+            index: fault.place as usize,
+            cause: Some(fault.cause).filter(|it| it.number() != 0),
+        },
         other => EncodeError::Library(other),
     })
+}
+
+/// Why a type has no record.
+enum Refused {
+    NoType,
+    Memory,
+}
+
+impl From<TryFromIntError> for Refused {
+    fn from(_: TryFromIntError) -> Refused {
+        Refused::NoType
+    }
+}
+
+impl From<TryReserveError> for Refused {
+    fn from(_: TryReserveError) -> Refused {
+        Refused::Memory
+    }
+}
+
+/// What the call reads.
+#[derive(Default)]
+struct Records<'a> {
+    types: Vec<TypeRecord>,
+    items: Vec<bpfcanon_btf_item>,
+    /// Each name once, with a NUL after it.
+    strings: Vec<u8>,
+    offsets: HashMap<&'a str, u32>,
+}
+
+impl<'a> Records<'a> {
+    /// Appends the record of a type, and those of its items.
+    fn push(&mut self, it: &Type<'a>) -> Result<(), Refused> {
+        let first = self.items.len();
+        self.push_items(it)?;
+        let items = u16::try_from(self.items.len() - first)?;
+        let (name, name_len) = self.name(it.name())?;
+        let record =
+            bpfcanon_btf_type { name, name_len, first: first.try_into()?, items, ..it.record() };
+        self.types.try_reserve(1)?;
+        self.types.push(TypeRecord(record));
+        Ok(())
+    }
+
+    #[rustfmt::skip]
+    fn push_items(&mut self, it: &Type<'a>) -> Result<(), Refused> {
+        let to = |target: TypeId| bpfcanon_btf_item { target: target.0, ..Default::default() };
+        match it {
+            Type::Struct { members, .. } | Type::Union { members, .. } => members.iter().try_for_each(|it| {
+                let kind = BPFCANON_BTF_ITEM_KIND_MEMBER;
+                self.push_item(it.name, bpfcanon_btf_item { kind, bit_offset: it.bit_offset, width: it.width.into(), ..to(it.target) })
+            }),
+            Type::Enum { values, signed, .. } => values.iter().try_for_each(|it| {
+                let value = if *signed { i32::try_from(it.value as i64)? as u32 } else { u32::try_from(it.value)? };
+                let kind = BPFCANON_BTF_ITEM_KIND_ENUM_VALUE;
+                self.push_item(it.name, bpfcanon_btf_item { kind, value: value.into(), ..Default::default() })
+            }),
+            Type::Enum64 { values, .. } => values.iter().try_for_each(|it| {
+                let kind = BPFCANON_BTF_ITEM_KIND_ENUM64_VALUE;
+                self.push_item(it.name, bpfcanon_btf_item { kind, value: it.value, ..Default::default() })
+            }),
+            Type::FuncProto { params, .. } => params.iter().try_for_each(|it| {
+                self.push_item(it.name, bpfcanon_btf_item { kind: BPFCANON_BTF_ITEM_KIND_PARAM, ..to(it.target) })
+            }),
+            Type::Datasec { entries, .. } => entries.iter().try_for_each(|it| {
+                let kind = BPFCANON_BTF_ITEM_KIND_ENTRY;
+                self.push_item("", bpfcanon_btf_item { kind, offset: it.offset, size: it.size, ..to(it.target) })
+            }),
+            _ => Ok(()),
+        }
+    }
+
+    fn push_item(&mut self, name: &'a str, record: bpfcanon_btf_item) -> Result<(), Refused> {
+        let (name, name_len) = self.name(name)?;
+        self.items.try_reserve(1)?;
+        self.items.push(bpfcanon_btf_item { name, name_len, ..record });
+        Ok(())
+    }
+
+    /// The offset and the length of a name, which is appended unless it is there.
+    fn name(&mut self, name: &'a str) -> Result<(u32, u32), Refused> {
+        if name.is_empty() {
+            return Ok((0, 0));
+        }
+        let len = u32::try_from(name.len())?;
+        if let Some(offset) = self.offsets.get(name) {
+            return Ok((*offset, len));
+        }
+        let offset = u32::try_from(self.strings.len())?;
+        self.offsets.try_reserve(1)?;
+        self.offsets.insert(name, offset);
+        self.strings.try_reserve(name.len() + 1)?;
+        self.strings.extend(name.as_bytes());
+        self.strings.push(0);
+        Ok((offset, len))
+    }
+
+    fn encode(&self, to: Order) -> Result<Vec<u8>, Error> {
+        let capacity = 24 + 24 * self.types.len() + 12 * self.items.len() + 1 + self.strings.len();
+        call::output(capacity, |out, capacity| {
+            // SAFETY: the records, which are aligned to 8 bytes, the names and the buffer are valid
+            // for the call, and don't overlap.
+            unsafe {
+                bpfcanon_btf_encode(
+                    to as u32,
+                    self.types.as_ptr().cast(),
+                    self.types.len(),
+                    self.items.as_ptr(),
+                    self.items.len(),
+                    self.strings.as_ptr().cast(),
+                    self.strings.len(),
+                    out,
+                    capacity,
+                )
+            }
+        })
+    }
 }

@@ -1,25 +1,26 @@
 //! Decoded BTF.
 
-use super::{Error, Items, Type, TypeId, MAX};
-use crate::records::{ItemRecord, TypeRecord};
-use crate::sys;
+use super::items::Items;
+use super::{Error, Type, TypeId, MAX};
+use crate::call;
+use crate::records::TypeRecord;
+use crate::sys::{self, bpfcanon_btf_item, bpfcanon_btf_type};
 use std::{fmt, iter, ops};
 
 /// The types of a BTF file, decoded. Names are parts of the file, and live as long as it.
 ///
 /// ```
-/// use bpfcanon::btf::{Btf, Item, Type, TypeId};
+/// use bpfcanon::btf::{Btf, Member, Type, TypeId};
 ///
 /// let file = b"\x9f\xeb\x01\0\x18\0\0\0\0\0\0\0\x28\0\0\0\x28\0\0\0\x09\0\0\0\
 ///     \x01\0\0\0\0\0\0\x01\x04\0\0\0\x20\0\0\x01\
 ///     \0\0\0\0\x01\0\0\x04\x04\0\0\0\x05\0\0\0\x01\0\0\0\0\0\0\0\0int\0len\0";
 /// let btf = Btf::decode(file)?;
 /// for (id, it) in &btf {
-///     if let Type::Struct { size, .. } = it {
+///     if let Type::Struct { size, members, .. } = it {
 ///         assert_eq!((id, size), (TypeId(2), 4));
 ///         let target = TypeId(1);
-///         let member = Item::Member { name: "len", target, bit_offset: 0, width: 0 };
-///         assert_eq!(btf.items(id).collect::<Vec<_>>(), [member]);
+///         assert_eq!(members, [Member { name: "len", target, bit_offset: 0, width: 0 }]);
 ///         assert_eq!(btf.name(target), Some("int"));
 ///     }
 /// }
@@ -30,7 +31,7 @@ pub struct Btf<'a> {
     names: Names<'a>,
     // `decode` has checked that the kind of each is known.
     types: Vec<TypeRecord>,
-    items: Vec<ItemRecord>,
+    items: Vec<bpfcanon_btf_item>,
 }
 
 impl<'a> Btf<'a> {
@@ -42,8 +43,8 @@ impl<'a> Btf<'a> {
     /// newer and decodes a kind of type that this crate doesn't know.
     pub fn decode(file: &'a [u8]) -> Result<Btf<'a>, Error> {
         let (types, items) = decode_records(file)?;
-        let unknown = types.iter().position(|it| it.typed("").is_none());
-        let unknown_item = items.iter().position(|it| it.typed("", false).is_none());
+        let unknown = types.iter().position(|it| !it.0.is_known());
+        let unknown_item = items.iter().position(|it| !it.is_known());
         match unknown.or(unknown_item) {
             Some(index) => Err(Error::UnknownRecord(index)),
             None => Ok(Btf { names: Names { file }, types, items }),
@@ -65,8 +66,10 @@ impl<'a> Btf<'a> {
         if id == TypeId::VOID {
             return Some(Type::Void);
         }
-        let record = self.record(id)?;
-        record.typed(self.names.get(record.name, record.name_len))
+        let (record, names) = (self.record(id)?, self.names);
+        let first = record.first as usize;
+        let records = self.items.get(first..first + usize::from(record.items))?;
+        record.typed(names.get(record.name, record.name_len), Items { records, names })
     }
 
     /// Returns the name of the type with this ID, which is empty if it has none, as void; none if
@@ -77,16 +80,6 @@ impl<'a> Btf<'a> {
         }
         let record = self.record(id)?;
         Some(self.names.get(record.name, record.name_len))
-    }
-
-    /// Returns an iterator over the members, values, parameters or entries of the type with this
-    /// ID. It is empty if the type has none, or if there is no such type.
-    pub fn items(&self, id: TypeId) -> Items<'_, 'a> {
-        let record = self.record(id);
-        let range = record.map(|it| it.first as usize..it.first as usize + usize::from(it.items));
-        let records = range.and_then(|it| self.items.get(it)).unwrap_or_default();
-        let is_signed = record.map_or(false, |it| it.flag == 1);
-        Items { records: records.iter(), names: self.names, is_signed }
     }
 
     /// Returns an iterator over the types, in order, each with its ID, and without void.
@@ -110,15 +103,15 @@ impl<'a> Btf<'a> {
         &'b self,
         name: &'b str,
     ) -> impl DoubleEndedIterator<Item = (TypeId, Type<'a>)> + 'b {
-        let is_named = move |it: &TypeRecord| {
+        let is_named = move |it: &bpfcanon_btf_type| {
             it.name_len as usize == name.len() && self.names.get(it.name, it.name_len) == name
         };
-        let found = self.types.iter().enumerate().filter(move |(_, it)| is_named(it));
+        let found = self.types.iter().enumerate().filter(move |(_, it)| is_named(&it.0));
         found.filter_map(|(index, _)| self.entry(index))
     }
 
-    fn record(&self, id: TypeId) -> Option<&TypeRecord> {
-        self.types.get((id.0 as usize).checked_sub(1)?)
+    fn record(&self, id: TypeId) -> Option<&bpfcanon_btf_type> {
+        Some(&self.types.get((id.0 as usize).checked_sub(1)?)?.0)
     }
 
     /// The type with this index among the records, and its ID.
@@ -129,9 +122,9 @@ impl<'a> Btf<'a> {
 }
 
 /// The records of the types and of all items.
-fn decode_records(file: &[u8]) -> Result<(Vec<TypeRecord>, Vec<ItemRecord>), Error> {
+fn decode_records(file: &[u8]) -> Result<(Vec<TypeRecord>, Vec<bpfcanon_btf_item>), Error> {
     let mut types: Vec<TypeRecord> = Vec::new();
-    let mut items: Vec<ItemRecord> = Vec::new();
+    let mut items: Vec<bpfcanon_btf_item> = Vec::new();
     // Every longer input has a fault.
     let len = file.len().min(MAX);
     types.try_reserve_exact(len / 12).map_err(|_| Error::OutOfMemory)?;
@@ -142,15 +135,13 @@ fn decode_records(file: &[u8]) -> Result<(Vec<TypeRecord>, Vec<ItemRecord>), Err
         sys::bpfcanon_btf_decode(
             file.as_ptr(),
             file.len(),
-            types.as_mut_ptr(),
+            types.as_mut_ptr().cast(),
             types.capacity(),
             items.as_mut_ptr(),
             items.capacity(),
         )
     };
-    if answer.status != sys::DONE {
-        return Err(Error::of(&answer, answer.pos));
-    }
+    let answer = call::done(answer)?;
     let (types_len, items_len) = (answer.types as usize, answer.written);
     assert!(types_len <= types.capacity() && items_len <= items.capacity());
     // SAFETY: the call has written so many types and items.

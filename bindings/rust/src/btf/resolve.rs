@@ -8,15 +8,15 @@ use std::fmt;
 pub enum ResolveError {
     /// The file has no type with this ID.
     NoSuchType(TypeId),
-    /// The types from this ID on lead round a circle, as a `const` of itself does.
-    Circle(TypeId),
+    /// The chain of types from this ID is a cycle, as that of a `const` of itself is.
+    Cycle(TypeId),
 }
 
 impl fmt::Display for ResolveError {
     fn fmt(&self, f: &mut fmt::Formatter<'_>) -> fmt::Result {
         match self {
             ResolveError::NoSuchType(id) => write!(f, "there is no type {id}"),
-            ResolveError::Circle(id) => write!(f, "type {id} leads round a circle"),
+            ResolveError::Cycle(id) => write!(f, "the chain of types from {id} is a cycle"),
         }
     }
 }
@@ -24,8 +24,8 @@ impl fmt::Display for ResolveError {
 impl std::error::Error for ResolveError {}
 
 /// What a qualifier, a type tag or a typedef refers to.
-fn aliased(it: Type<'_>) -> Option<TypeId> {
-    match it {
+fn aliased(it: &Type<'_>) -> Option<TypeId> {
+    match *it {
         Type::Typedef { target, .. }
         | Type::Volatile { target }
         | Type::Const { target }
@@ -41,8 +41,8 @@ impl<'a> Btf<'a> {
     ///
     /// # Errors
     ///
-    /// [`ResolveError::NoSuchType`] if there is no type with this ID. [`ResolveError::Circle`] if
-    /// the types lead round a circle: the format doesn't forbid it, and [`Btf::decode`] accepts it.
+    /// [`ResolveError::NoSuchType`] if there is no type with this ID. [`ResolveError::Cycle`] if
+    /// the chain of types is a cycle: the format doesn't forbid it, and [`Btf::decode`] accepts it.
     ///
     /// ```
     /// # use bpfcanon::btf::{Btf, ResolveError, Type, TypeId};
@@ -51,22 +51,22 @@ impl<'a> Btf<'a> {
     ///     \0\0\0\0\0\0\0\x0a\0\0\0\0\0\0\0\0\0\0\0\x09\x02\0\0\0\0";
     /// let btf = Btf::decode(file)?;
     /// assert_eq!(btf.resolve(TypeId(1)), Ok((TypeId::VOID, Type::Void)));
-    /// assert_eq!(btf.resolve(TypeId(2)), Err(ResolveError::Circle(TypeId(2))));
+    /// assert_eq!(btf.resolve(TypeId(2)), Err(ResolveError::Cycle(TypeId(2))));
     /// # Ok::<(), bpfcanon::btf::Error>(())
     /// ```
     pub fn resolve(&self, id: TypeId) -> Result<(TypeId, Type<'a>), ResolveError> {
         let mut at = id;
-        // On a circle the walk returns to a type where it has been. It remembers one, and a later
-        // one after twice as many steps, so that even a file of many circles is read quickly.
+        // In a cycle the walk returns to a type where it has been. It remembers one, and a later
+        // one after twice as many steps, so that even a file of many cycles is read quickly.
         let (mut seen, mut steps, mut limit) = (id, 0, 1);
         loop {
             let it = self.get(at).ok_or(ResolveError::NoSuchType(at))?;
-            let target = match aliased(it) {
+            let target = match aliased(&it) {
                 Some(target) => target,
                 None => return Ok((at, it)),
             };
             if target == seen {
-                return Err(ResolveError::Circle(id));
+                return Err(ResolveError::Cycle(id));
             }
             at = target;
             steps += 1;

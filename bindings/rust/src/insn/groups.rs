@@ -1,3 +1,4 @@
+use crate::sys;
 use std::{fmt, ops};
 
 /// A set of conformance groups (RFC 9669 section 2.4): instructions that a runtime supports
@@ -21,19 +22,19 @@ const NAMES: [&str; 7] =
 
 impl Groups {
     /// `base32`.
-    pub const BASE32: Groups = Groups(1);
+    pub const BASE32: Groups = Groups(sys::BPFCANON_GROUP_BASE32);
     /// `base64`, which includes `base32`.
-    pub const BASE64: Groups = Groups(2);
+    pub const BASE64: Groups = Groups(sys::BPFCANON_GROUP_BASE64);
     /// `atomic32`.
-    pub const ATOMIC32: Groups = Groups(4);
+    pub const ATOMIC32: Groups = Groups(sys::BPFCANON_GROUP_ATOMIC32);
     /// `atomic64`, which includes `atomic32`.
-    pub const ATOMIC64: Groups = Groups(8);
+    pub const ATOMIC64: Groups = Groups(sys::BPFCANON_GROUP_ATOMIC64);
     /// `divmul32`.
-    pub const DIVMUL32: Groups = Groups(16);
+    pub const DIVMUL32: Groups = Groups(sys::BPFCANON_GROUP_DIVMUL32);
     /// `divmul64`, which includes `divmul32`.
-    pub const DIVMUL64: Groups = Groups(32);
+    pub const DIVMUL64: Groups = Groups(sys::BPFCANON_GROUP_DIVMUL64);
     /// `packet`: legacy access to packets.
-    pub const PACKET: Groups = Groups(64);
+    pub const PACKET: Groups = Groups(sys::BPFCANON_GROUP_PACKET);
 
     /// Returns the set of no groups.
     pub const fn empty() -> Groups {

@@ -1,6 +1,7 @@
 //! What instructions are made of: registers, widths, sizes and operations.
 
 use crate::records::numbered;
+use crate::sys::*;
 use std::fmt;
 
 /// A register, r0 to r10 (RFC 9669 section 3.1).
@@ -110,33 +111,33 @@ numbered! {
     /// opcodes of the unsigned ones and have offset 1.
     AluOp {
         /// `dst += operand`.
-        Add = 0,
+        Add = BPFCANON_ALU_ADD,
         /// `dst -= operand`.
-        Sub = 1,
+        Sub = BPFCANON_ALU_SUB,
         /// `dst *= operand`.
-        Mul = 2,
+        Mul = BPFCANON_ALU_MUL,
         /// `dst /= operand`, unsigned.
-        Div = 3,
+        Div = BPFCANON_ALU_DIV,
         /// `dst /= operand`, signed.
-        Sdiv = 19,
+        Sdiv = BPFCANON_ALU_SDIV,
         /// `dst |= operand`.
-        Or = 4,
+        Or = BPFCANON_ALU_OR,
         /// `dst &= operand`.
-        And = 5,
+        And = BPFCANON_ALU_AND,
         /// `dst <<= operand`.
-        Lsh = 6,
+        Lsh = BPFCANON_ALU_LSH,
         /// `dst >>= operand`, filled with zeros.
-        Rsh = 7,
+        Rsh = BPFCANON_ALU_RSH,
         /// `dst %= operand`, unsigned.
-        Mod = 9,
+        Mod = BPFCANON_ALU_MOD,
         /// `dst %= operand`, signed.
-        Smod = 25,
+        Smod = BPFCANON_ALU_SMOD,
         /// `dst ^= operand`.
-        Xor = 10,
+        Xor = BPFCANON_ALU_XOR,
         /// `dst = operand`.
-        Mov = 11,
+        Mov = BPFCANON_ALU_MOV,
         /// `dst >>= operand`, filled with the sign.
-        Arsh = 12,
+        Arsh = BPFCANON_ALU_ARSH,
     }
 }
 
@@ -144,27 +145,27 @@ numbered! {
     /// The comparison of a branch (RFC 9669 section 4.3).
     BranchOp {
         /// `dst == operand`.
-        Eq = 1,
+        Eq = BPFCANON_BRANCH_EQ,
         /// `dst > operand`, unsigned.
-        Gt = 2,
+        Gt = BPFCANON_BRANCH_GT,
         /// `dst >= operand`, unsigned.
-        Ge = 3,
+        Ge = BPFCANON_BRANCH_GE,
         /// `dst & operand` isn't 0.
-        Set = 4,
+        Set = BPFCANON_BRANCH_SET,
         /// `dst != operand`.
-        Ne = 5,
+        Ne = BPFCANON_BRANCH_NE,
         /// `dst > operand`, signed.
-        Sgt = 6,
+        Sgt = BPFCANON_BRANCH_SGT,
         /// `dst >= operand`, signed.
-        Sge = 7,
+        Sge = BPFCANON_BRANCH_SGE,
         /// `dst < operand`, unsigned.
-        Lt = 10,
+        Lt = BPFCANON_BRANCH_LT,
         /// `dst <= operand`, unsigned.
-        Le = 11,
+        Le = BPFCANON_BRANCH_LE,
         /// `dst < operand`, signed.
-        Slt = 12,
+        Slt = BPFCANON_BRANCH_SLT,
         /// `dst <= operand`, signed.
-        Sle = 13,
+        Sle = BPFCANON_BRANCH_SLE,
     }
 }
 
@@ -188,11 +189,11 @@ numbered! {
     /// How a byte swap instruction converts its operand (RFC 9669 section 4.2).
     SwapKind {
         /// Between the host's byte order and little-endian.
-        Le = 0xd4,
+        Le = BPFCANON_SWAP_LE,
         /// Between the host's byte order and big-endian.
-        Be = 0xdc,
+        Be = BPFCANON_SWAP_BE,
         /// Unconditionally: reverses the bytes.
-        Swap = 0xd7,
+        Bytes = BPFCANON_SWAP_BYTES,
     }
 }
 
@@ -212,25 +213,25 @@ numbered! {
     /// An atomic operation on memory, which the immediate encodes (RFC 9669 section 5.3).
     AtomicOp {
         /// Addition.
-        Add = 0x00,
+        Add = BPFCANON_ATOMIC_ADD,
         /// Bitwise or.
-        Or = 0x40,
+        Or = BPFCANON_ATOMIC_OR,
         /// Bitwise and.
-        And = 0x50,
+        And = BPFCANON_ATOMIC_AND,
         /// Bitwise exclusive or.
-        Xor = 0xa0,
+        Xor = BPFCANON_ATOMIC_XOR,
         /// Addition; src receives the old value.
-        FetchAdd = 0x01,
+        FetchAdd = BPFCANON_ATOMIC_FETCH_ADD,
         /// Bitwise or; src receives the old value.
-        FetchOr = 0x41,
+        FetchOr = BPFCANON_ATOMIC_FETCH_OR,
         /// Bitwise and; src receives the old value.
-        FetchAnd = 0x51,
+        FetchAnd = BPFCANON_ATOMIC_FETCH_AND,
         /// Bitwise exclusive or; src receives the old value.
-        FetchXor = 0xa1,
+        FetchXor = BPFCANON_ATOMIC_FETCH_XOR,
         /// Stores src; src receives the old value.
-        Xchg = 0xe1,
+        Xchg = BPFCANON_ATOMIC_XCHG,
         /// Stores src if the old value equals r0; r0 receives the old value.
-        Cmpxchg = 0xf1,
+        Cmpxchg = BPFCANON_ATOMIC_CMPXCHG,
     }
 }
 

@@ -1,7 +1,6 @@
 //! Programs as sequences of instructions.
 
 use super::{Error, Groups, Insn};
-use crate::records::InsnRecord;
 use crate::{call, sys, Order};
 use std::borrow::Borrow;
 use std::{fmt, iter, slice};
@@ -31,7 +30,7 @@ use std::{fmt, iter, slice};
 pub struct Program<'a> {
     bytes: &'a [u8],
     // `decode` has checked that each is known.
-    records: Vec<InsnRecord>,
+    records: Vec<sys::bpfcanon_insn>,
 }
 
 impl<'a> Program<'a> {
@@ -42,17 +41,13 @@ impl<'a> Program<'a> {
     /// The first fault of the program, or out of memory, or [`Error::UnknownRecord`] if the library
     /// is newer and decodes an instruction that this crate doesn't know.
     pub fn decode(order: Order, bytes: &'a [u8]) -> Result<Program<'a>, Error> {
-        let mut records: Vec<InsnRecord> = call::output(
-            bytes.len() / 8,
-            |it| it.pos,
-            |out, room| {
-                // SAFETY: the slice and the buffer, which is aligned to 8 bytes, are valid for the
-                // call, and don't overlap.
-                unsafe {
-                    sys::bpfcanon_insn_decode(order as u32, bytes.as_ptr(), bytes.len(), out, room)
-                }
-            },
-        )?;
+        let mut records: Vec<sys::bpfcanon_insn> = call::output(bytes.len() / 8, |out, room| {
+            // SAFETY: the slice and the buffer, which is aligned to 8 bytes, are valid for the
+            // call, and don't overlap.
+            unsafe {
+                sys::bpfcanon_insn_decode(order as u32, bytes.as_ptr(), bytes.len(), out, room)
+            }
+        })?;
         if let Some(index) = records.iter().position(|it| it.insn().is_none()) {
             return Err(Error::UnknownRecord(index));
         }
@@ -77,20 +72,20 @@ impl<'a> Program<'a> {
 
     /// Returns the offset in bytes of the instruction with this index; none if there are fewer.
     pub fn offset(&self, index: usize) -> Option<usize> {
-        Some(self.records.get(index)?.pos as usize)
+        Some(self.records.get(index)?.offset as usize)
     }
 
     /// Returns the index of the instruction that begins at this offset in bytes; none if no
     /// instruction begins there. Takes logarithmic time.
     pub fn index_at(&self, offset: usize) -> Option<usize> {
-        self.records.binary_search_by_key(&(offset as u64), |it| it.pos).ok()
+        self.records.binary_search_by_key(&(offset as u64), |it| it.offset).ok()
     }
 
     /// Returns the encoding of the instruction with this index, 8 or 16 bytes of the program; none
     /// if there are fewer.
     pub fn bytes(&self, index: usize) -> Option<&'a [u8]> {
         let record = self.records.get(index)?;
-        let start = record.pos as usize;
+        let start = record.offset as usize;
         self.bytes.get(start..start + usize::from(record.len))
     }
 
@@ -125,11 +120,11 @@ impl<'b> IntoIterator for &'b Program<'_> {
 /// An iterator over the instructions of a [`Program`], each with its offset in bytes.
 #[derive(Clone)]
 pub struct Insns<'b> {
-    records: slice::Iter<'b, InsnRecord>,
+    records: slice::Iter<'b, sys::bpfcanon_insn>,
 }
 
-fn located(record: &InsnRecord) -> Option<(usize, Insn)> {
-    Some((record.pos as usize, record.insn()?))
+fn located(record: &sys::bpfcanon_insn) -> Option<(usize, Insn)> {
+    Some((record.offset as usize, record.insn()?))
 }
 
 impl Iterator for Insns<'_> {
@@ -191,26 +186,20 @@ where
     I::Item: Borrow<Insn>,
 {
     let insns = insns.into_iter();
-    let mut records: Vec<InsnRecord> = Vec::new();
+    let mut records: Vec<sys::bpfcanon_insn> = Vec::new();
     records.try_reserve(insns.size_hint().0).map_err(|_| Error::OutOfMemory)?;
     for insn in insns {
         records.try_reserve(1).map_err(|_| Error::OutOfMemory)?;
         records.push((*insn.borrow()).into());
     }
     let wide = records.iter().filter(|it| it.is_wide()).count();
-    let encoded = call::output(
-        8 * (records.len() + wide),
-        |it| it.pos,
-        |out, room| {
-            // SAFETY: the records, which are aligned to 8 bytes, and the buffer are valid for the
-            // call, and don't overlap.
-            unsafe {
-                sys::bpfcanon_insn_encode(to as u32, records.as_ptr(), records.len(), out, room)
-            }
-        },
-    );
+    let encoded = call::output(8 * (records.len() + wide), |out, room| {
+        // SAFETY: the records, which are aligned to 8 bytes, and the buffer are valid for the
+        // call, and don't overlap.
+        unsafe { sys::bpfcanon_insn_encode(to as u32, records.as_ptr(), records.len(), out, room) }
+    });
     encoded.map_err(|error| match error {
-        Error::Fault(fault) => Error::UnknownRecord(fault.position as usize),
+        Error::Fault(fault) => Error::UnknownRecord(fault.place as usize),
         other => other,
     })
 }

@@ -29,7 +29,7 @@ const PIECE: usize = 64 << 10;
 /// assert_eq!(writer.get_ref(), &[0xbf, 0x21, 0, 0, 0, 0, 0, 0]);
 /// let error = writer.finish().unwrap_err();
 /// let fault = error.get_ref().unwrap().downcast_ref::<insn::Error>().unwrap().fault().unwrap();
-/// assert_eq!((fault.position(), fault.cause()), (8, insn::Cause::Truncated));
+/// assert_eq!((fault.offset(), fault.cause()), (8, insn::Cause::Truncated));
 /// # Ok::<(), std::io::Error>(())
 /// ```
 #[derive(Debug)]
@@ -104,7 +104,7 @@ impl<W: Write> InsnWriter<W> {
     fn fail(&mut self, error: insn::Error) -> io::Error {
         let error = match error {
             insn::Error::Fault(mut fault) => {
-                fault.position += self.done;
+                fault.place += self.done;
                 insn::Error::Fault(fault)
             }
             other => other,
@@ -131,8 +131,8 @@ impl<W: Write> InsnWriter<W> {
                 self.out.capacity(),
             )
         };
-        if front.read == 0 && front.status != sys::DONE {
-            return Err(self.fail(insn::Error::of(&front, front.pos)));
+        if front.read == 0 && front.status != sys::BPFCANON_STATUS_DONE {
+            return Err(self.fail(insn::Error::of(&front)));
         }
         assert!(front.written <= self.out.capacity() && front.read <= piece.len());
         // SAFETY: the call has written so many bytes.
