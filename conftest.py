@@ -24,8 +24,6 @@ def pytest_addoption(parser):
     parser.addoption("--program", type=pathlib.Path, default=BUILT, help="the built command")
     parser.addoption("--object-program", type=pathlib.Path, default=OBJECTS_BUILT, help="the built command on object files")
     parser.addoption("--prefix", type=pathlib.Path, default=TOP / "out" / "prefix", help="where the C library is installed")
-    parser.addoption("--seed", default="1", help="of the changed object files")
-    parser.addoption("--count", type=int, default=2_000, help="how many object files are changed")
 
 
 def compares(function):

@@ -12,7 +12,7 @@
 
 static uint32_t order_of(const char *word)
 {
-	return strcmp(word, "big") ? BPFCANON_LITTLE : BPFCANON_BIG;
+	return strcmp(word, "big") ? BPFCANON_ORDER_LITTLE : BPFCANON_ORDER_BIG;
 }
 
 /* Calls for an entire input, whose byte order BTF states itself. */
@@ -28,9 +28,9 @@ static int write_file(int is_btf, uint32_t order, uint32_t to)
 		answer = bpfcanon_btf_canon(to, bytes, len, out, len);
 	else
 		answer = bpfcanon_insn_canon(order, to, bytes, len, out, len);
-	if (answer.status == BPFCANON_FAULT)
-		refuse(is_btf ? bpfcanon_btf_cause_name(answer.cause) : bpfcanon_insn_cause_name(answer.cause), answer.pos);
-	if (answer.status != BPFCANON_DONE)
+	if (answer.status == BPFCANON_STATUS_FAULT)
+		refuse(is_btf ? bpfcanon_btf_cause_name(answer.cause) : bpfcanon_insn_cause_name(answer.cause), answer.offset);
+	if (answer.status != BPFCANON_STATUS_DONE)
 		return 3;
 	write_whole(out, answer.written);
 	return 0;
@@ -56,25 +56,25 @@ static int write_pieces(uint32_t order, uint32_t to)
 			break;
 		held += n;
 		front = bpfcanon_insn_front(order, to, piece, held, output, PIECE);
-		if (front.status != BPFCANON_DONE && front.status != BPFCANON_FAULT)
+		if (front.status != BPFCANON_STATUS_DONE && front.status != BPFCANON_STATUS_FAULT)
 			return 3;
 		write_whole(output, front.written);
-		if (front.status == BPFCANON_FAULT)
-			refuse(bpfcanon_insn_cause_name(front.cause), done + front.pos);
+		if (front.status == BPFCANON_STATUS_FAULT)
+			refuse(bpfcanon_insn_cause_name(front.cause), done + front.offset);
 		done += front.read;
 		held -= front.read;
 		memmove(piece, piece + front.read, held);
 	}
 	rest = bpfcanon_insn_canon(order, to, piece, held, output, PIECE);
-	if (rest.status == BPFCANON_FAULT)
-		refuse(bpfcanon_insn_cause_name(rest.cause), done + rest.pos);
-	return rest.status == BPFCANON_DONE ? 0 : 3;
+	if (rest.status == BPFCANON_STATUS_FAULT)
+		refuse(bpfcanon_insn_cause_name(rest.cause), done + rest.offset);
+	return rest.status == BPFCANON_STATUS_DONE ? 0 : 3;
 }
 
 int main(int argc, char **argv)
 {
 	if (argc == 3 && !strcmp(argv[1], "btf"))
-		return write_file(1, BPFCANON_LITTLE, order_of(argv[2]));
+		return write_file(1, BPFCANON_ORDER_LITTLE, order_of(argv[2]));
 	if (argc == 4 && !strcmp(argv[1], "insn"))
 		return write_file(0, order_of(argv[2]), order_of(argv[3]));
 	if (argc == 4 && !strcmp(argv[1], "front"))

@@ -16,6 +16,7 @@ FILES = {
     "python3-yaml": f"{MODULES}/yaml",
     "elftools": f"{MODULES}/elftools",
     "distributed": f"{MODULES}/distributed",
+    "ensurepip": "/usr/lib/python3.*/ensurepip",
     "setuptools": f"{MODULES}/setuptools",
     "wheel": f"{MODULES}/wheel",
     "python3-build": f"{MODULES}/build",

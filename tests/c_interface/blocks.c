@@ -22,6 +22,11 @@ struct made {
 
 static _Alignas(8) uint8_t room[2][ROOM], marker;
 
+/* The records that are encoded, of which the input has the names. */
+static bpfcanon_btf_type types[64];
+static bpfcanon_btf_item items[64];
+static bpfcanon_answer records;
+
 /* A call in both of its shapes. */
 #define CALL(name, type, call_new, call) \
 	static struct made name(struct input in, int is_new) \
@@ -43,6 +48,10 @@ CALL(object_canon, uint8_t, bpfcanon_object_canon_new(in.bytes, in.len, &block),
 CALL(insn_decode, bpfcanon_insn, bpfcanon_insn_decode_new(in.order, in.bytes, in.len, &block),
      bpfcanon_insn_decode(in.order, in.bytes, in.len, (bpfcanon_insn *)room[0], ROOM / sizeof(bpfcanon_insn)))
 
+CALL(btf_encode, uint8_t,
+     bpfcanon_btf_encode_new(in.to, types, records.types, items, records.written, (const char *)in.bytes, in.len, &block),
+     bpfcanon_btf_encode(in.to, types, records.types, items, records.written, (const char *)in.bytes, in.len, room[0], ROOM))
+
 static struct made btf_decode(struct input in, int is_new)
 {
 	const size_t most = ROOM / sizeof(bpfcanon_btf_type);
@@ -60,7 +69,7 @@ static const struct call {
 	int needs_memory; /* to find a fault */
 } BTF_CALLS[] = { { btf_canon, 1, 1 }, { btf_show, 1, 1 }, { btf_decode, sizeof(bpfcanon_btf_type), 1 } },
   INSN_CALLS[] = { { insn_canon, 1, 0 }, { insn_show, 1, 0 }, { insn_decode, sizeof(bpfcanon_insn), 0 } },
-  READ_CALLS[] = { { insn_read, 1, 1 } }, OBJECT_CALLS[] = { { object_canon, 1, 1 } };
+  ENCODE_CALLS[] = { { btf_encode, 1, 1 } }, READ_CALLS[] = { { insn_read, 1, 1 } }, OBJECT_CALLS[] = { { object_canon, 1, 1 } };
 
 /* A block with what the call without one has written in the room, or none if that isn't done. */
 static int is_block(const uint8_t *block, const uint8_t *wanted, size_t count, size_t size)
@@ -72,7 +81,7 @@ static int is_right(const struct call *call, struct made made, bpfcanon_answer r
 {
 	if (!is(made.answer, right))
 		return 0;
-	if (right.status != BPFCANON_DONE)
+	if (right.status != BPFCANON_STATUS_DONE)
 		return !made.first && !made.second;
 	return is_block(made.first, room[0], call->run == btf_decode ? right.types : right.written, call->size)
 		&& (call->run != btf_decode || is_block(made.second, room[1], right.written, call->size));
@@ -81,12 +90,12 @@ static int is_right(const struct call *call, struct made made, bpfcanon_answer r
 /* Without memory a fault is reported if it is found, and nothing is handed out. */
 static int is_refusal(const struct call *call, struct made made, bpfcanon_answer right)
 {
-	int is_fault = right.status == BPFCANON_FAULT || right.status == BPFCANON_ORDER;
+	int is_fault = right.status == BPFCANON_STATUS_FAULT || right.status == BPFCANON_STATUS_ORDER;
 	int has_to_be_found = is_fault && (refuses_one || !call->needs_memory);
 
 	if (made.first || made.second)
 		return 0;
-	return (is_fault && is(made.answer, right)) || (!has_to_be_found && is(made.answer, ended(BPFCANON_MEMORY)));
+	return (is_fault && is(made.answer, right)) || (!has_to_be_found && is(made.answer, ended(BPFCANON_STATUS_OUT_OF_MEMORY)));
 }
 
 /* The call with 0, 1, 2 .. allocations, until that is enough. A block that can't be made smaller is handed out as it is. */
@@ -131,21 +140,25 @@ static void try_files(const char *folder)
 	for (uint32_t order = 0; order < 2; order++) {
 		char name[64];
 		size_t types_len, insns_len;
-		uint8_t *types, *insns;
+		uint8_t *btf, *insns;
 
 		snprintf(name, sizeof name, "flow_table.%s.btf", names[order]);
-		types = load(folder, name, &types_len);
+		btf = load(folder, name, &types_len);
+		records = bpfcanon_btf_decode(btf, types_len, types, COUNT(types), items, COUNT(items));
+		CHECK(records.status == BPFCANON_STATUS_DONE);
 		snprintf(name, sizeof name, "packet_filter.%s.bin", names[order]);
 		insns = load(folder, name, &insns_len);
 		for (uint32_t to = 0; to < 2; to++) {
-			TRY(BTF_CALLS, types, types_len, order, to);
-			TRY(BTF_CALLS, types, types_len - 1, order, to);
+			TRY(BTF_CALLS, btf, types_len, order, to);
+			TRY(BTF_CALLS, btf, types_len - 1, order, to);
+			TRY(ENCODE_CALLS, btf, types_len, order, to);
+			TRY(ENCODE_CALLS, btf, types_len - 1, order, to);
 			TRY(INSN_CALLS, insns, insns_len, order, to);
 			TRY(INSN_CALLS, insns, insns_len - 1, order, to);
 			TRY(READ_CALLS, BYTES("mov r1, r2\nexit\n"), order, to);
 			TRY(READ_CALLS, BYTES("exit\nleave\n"), order, to);
 		}
-		free(types);
+		free(btf);
 		free(insns);
 	}
 }

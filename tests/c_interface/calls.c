@@ -1,10 +1,14 @@
-/* What the C part of the library has of its own besides blocks: names, versions, and streams over several calls. usage: calls TESTDATA */
+/*
+ * What the C part of the library has of its own besides blocks: names, versions, streams over several calls, and the room of the calls on
+ * object files. usage: calls TESTDATA
+ */
 #include "checks.h"
+#include "object_file.h"
 
-_Static_assert(BPFCANON_INSN_CAUSES == BPFCANON_INSN_NEXT_IMM, "the last cause of instructions");
-_Static_assert(BPFCANON_LINE_CAUSES == BPFCANON_LINE_RANGE, "the last cause of listings");
-_Static_assert(BPFCANON_BTF_CAUSES == BPFCANON_BTF_COMPONENT, "the last cause of BTF");
-_Static_assert(BPFCANON_OBJECT_CAUSES == BPFCANON_OBJECT_RESULT_TOO_LARGE, "the last cause of object files");
+_Static_assert(BPFCANON_INSN_CAUSE_MAX == BPFCANON_INSN_CAUSE_NEXT_IMM, "the last cause of instructions");
+_Static_assert(BPFCANON_LINE_CAUSE_MAX == BPFCANON_LINE_CAUSE_RANGE, "the last cause of listings");
+_Static_assert(BPFCANON_BTF_CAUSE_MAX == BPFCANON_BTF_CAUSE_COMPONENT, "the last cause of BTF");
+_Static_assert(BPFCANON_OBJECT_CAUSE_MAX == BPFCANON_OBJECT_CAUSE_RESULT_TOO_LARGE, "the last cause of object files");
 
 /* A stream in pieces of one length, with what is left kept before the next. */
 static void stream_in_pieces_of(size_t piece, const uint8_t *big, size_t len, const uint8_t *little, size_t little_len)
@@ -17,7 +21,7 @@ static void stream_in_pieces_of(size_t piece, const uint8_t *big, size_t len, co
 		bpfcanon_answer front;
 
 		memcpy(held + kept, big + i, more);
-		front = bpfcanon_insn_front(BPFCANON_BIG, BPFCANON_LITTLE, held, kept + more, whole + done, sizeof whole - done);
+		front = bpfcanon_insn_front(BPFCANON_ORDER_BIG, BPFCANON_ORDER_LITTLE, held, kept + more, whole + done, sizeof whole - done);
 		CHECK(is(front, front_of(front.read)) && kept + more - front.read < 16);
 		kept += more - front.read;
 		memmove(held, held + front.read, kept);
@@ -34,10 +38,26 @@ static void streams_may_be_cut_anywhere(const char *folder)
 
 	for (size_t piece = 1; piece < 60; piece++)
 		stream_in_pieces_of(piece, big, len, little, little_len);
-	CHECK(is(bpfcanon_insn_front(BPFCANON_LITTLE, BPFCANON_BIG, BYTES(exit_and_fault), out, sizeof out), front_before(8, 4, 9)));
-	CHECK(is(bpfcanon_insn_front(BPFCANON_LITTLE, BPFCANON_BIG, BYTES(exit_and_fault), out, 7), needs(8)));
+	CHECK(is(bpfcanon_insn_front(BPFCANON_ORDER_LITTLE, BPFCANON_ORDER_BIG, BYTES(exit_and_fault), out, sizeof out), front_before(8, 4, 9)));
+	CHECK(is(bpfcanon_insn_front(BPFCANON_ORDER_LITTLE, BPFCANON_ORDER_BIG, BYTES(exit_and_fault), out, 7), needs(8)));
 	free(big);
 	free(little);
+}
+
+/* Nothing is written where an output doesn't fit, and nothing behind one that does. The file is its own canonical file. */
+static void objects_fit_their_room(void)
+{
+	const uint8_t *file = (const uint8_t *)&OBJECT;
+	uint8_t out[sizeof OBJECT + 1], key[33];
+
+	memset(out, 0xaa, sizeof out);
+	memset(key, 0xaa, sizeof key);
+	CHECK(is(bpfcanon_object_canon(file, sizeof OBJECT, out, sizeof OBJECT - 1), needs(sizeof OBJECT)));
+	CHECK(is(bpfcanon_object_key(file, sizeof OBJECT, key, 31), needs(32)));
+	CHECK(is_filled(out, out + sizeof out) && is_filled(key, key + 33));
+	CHECK(is(bpfcanon_object_canon(file, sizeof OBJECT, out, sizeof OBJECT), written(sizeof OBJECT)));
+	CHECK(is(bpfcanon_object_key(file, sizeof OBJECT, key, 32), written(32)));
+	CHECK(!memcmp(out, file, sizeof OBJECT) && is_filled(out + sizeof OBJECT, out + sizeof out) && is_filled(key + 32, key + 33));
 }
 
 /* tools/from_causes writes the names and sentences of causes; those of the first and the last show that each call has its own. */
@@ -48,17 +68,17 @@ static void numbers_have_names(void)
 		uint32_t first, last;
 		const char *first_name, *last_name, *first_text;
 	} rows[] = {
-		{ bpfcanon_status_name, bpfcanon_status_text, BPFCANON_DONE, BPFCANON_ALIGNMENT, "Done", "Alignment",
+		{ bpfcanon_status_name, bpfcanon_status_text, BPFCANON_STATUS_DONE, BPFCANON_STATUS_ALIGNMENT, "Done", "Alignment",
 		  "the call is done, or the two inputs are the same" },
 		/* A fault of bpfcanon_insn_encode has the cause 0. */
-		{ bpfcanon_insn_cause_name, bpfcanon_insn_cause_text, 0, BPFCANON_INSN_CAUSES, "Record", "NextImm",
+		{ bpfcanon_insn_cause_name, bpfcanon_insn_cause_text, 0, BPFCANON_INSN_CAUSE_MAX, "Record", "NextImm",
 		  "the record is not that of an instruction" },
-		{ bpfcanon_line_cause_name, bpfcanon_line_cause_text, 1, BPFCANON_LINE_CAUSES, "Char", "Range",
+		{ bpfcanon_line_cause_name, bpfcanon_line_cause_text, 1, BPFCANON_LINE_CAUSE_MAX, "Char", "Range",
 		  "a character that is neither blank nor part of a token" },
-		{ bpfcanon_btf_cause_name, bpfcanon_btf_cause_text, 1, BPFCANON_BTF_CAUSES, "ShortHeader", "Component",
+		{ bpfcanon_btf_cause_name, bpfcanon_btf_cause_text, 1, BPFCANON_BTF_CAUSE_MAX, "ShortHeader", "Component",
 		  "the file has fewer than 24 bytes" },
 		/* Those of BTF are below it. */
-		{ bpfcanon_object_cause_name, bpfcanon_object_cause_text, BPFCANON_OBJECT_FILE_TOO_LARGE, BPFCANON_OBJECT_CAUSES,
+		{ bpfcanon_object_cause_name, bpfcanon_object_cause_text, BPFCANON_OBJECT_CAUSE_FILE_TOO_LARGE, BPFCANON_OBJECT_CAUSE_MAX,
 		  "FileTooLarge", "ResultTooLarge", "the file is longer than 64 MiB" },
 	};
 
@@ -71,19 +91,19 @@ static void numbers_have_names(void)
 		CHECK(!rows[k].name(rows[k].last + 1) && !rows[k].text(rows[k].last + 1));
 		CHECK(!rows[k].name(0x80000001) && !rows[k].text(0xffffffff));
 	}
-	CHECK(!strcmp(bpfcanon_object_cause_name(BPFCANON_BTF_COMPONENT), "Component") && !bpfcanon_object_cause_name(0));
+	CHECK(!strcmp(bpfcanon_object_cause_name(BPFCANON_BTF_CAUSE_COMPONENT), "Component") && !bpfcanon_object_cause_name(0));
 }
 
 static void statuses_have_these_names(void)
 {
-	static const char *const names[] = { "Done", "Different", "Fault", "FaultSecond", "Memory", "Room", "Order", "Alignment" };
+	static const char *const names[] = { "Done", "Different", "Fault", "FaultSecond", "OutOfMemory", "Room", "Order", "Alignment" };
 	static const char *const texts[] = {
 		"the call is done, or the two inputs are the same", "the two inputs are different", "the input, or the first of two, has a fault",
-		"the second of two inputs has a fault, and the first has none", "out of memory", "the output is longer than its room",
+		"the second of two inputs has a fault, and the first has none", "out of memory", "the output is longer than the capacity of its buffer",
 		"a number is not that of a byte order", "an array of records is not aligned to 8 bytes",
 	};
 
-	_Static_assert(COUNT(names) == BPFCANON_ALIGNMENT + 1 && COUNT(texts) == COUNT(names), "a row for each status");
+	_Static_assert(COUNT(names) == BPFCANON_STATUS_ALIGNMENT + 1 && COUNT(texts) == COUNT(names), "a row for each status");
 	for (uint32_t status = 0; status < COUNT(names); status++)
 		CHECK(!strcmp(bpfcanon_status_name(status), names[status]) && !strcmp(bpfcanon_status_text(status), texts[status]));
 }
@@ -101,6 +121,7 @@ int main(int argc, char **argv)
 	if (argc != 2)
 		return 2;
 	streams_may_be_cut_anywhere(argv[1]);
+	objects_fit_their_room();
 	numbers_have_names();
 	statuses_have_these_names();
 	versions_agree();

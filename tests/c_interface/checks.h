@@ -23,54 +23,54 @@ static inline bpfcanon_answer ended(uint32_t status)
 
 static inline bpfcanon_answer written(size_t len)
 {
-	return (bpfcanon_answer){ .status = BPFCANON_DONE, .written = len };
+	return (bpfcanon_answer){ .status = BPFCANON_STATUS_DONE, .written = len };
 }
 
 static inline bpfcanon_answer with_types(uint32_t count)
 {
-	return (bpfcanon_answer){ .status = BPFCANON_DONE, .types = count };
+	return (bpfcanon_answer){ .status = BPFCANON_STATUS_DONE, .types = count };
 }
 
 static inline bpfcanon_answer with_groups(uint32_t mask)
 {
-	return (bpfcanon_answer){ .status = BPFCANON_DONE, .groups = mask };
+	return (bpfcanon_answer){ .status = BPFCANON_STATUS_DONE, .groups = mask };
 }
 
-static inline bpfcanon_answer fault(uint32_t cause, uint64_t pos)
+static inline bpfcanon_answer fault(uint32_t cause, uint64_t offset)
 {
-	return (bpfcanon_answer){ .status = BPFCANON_FAULT, .cause = cause, .pos = pos };
+	return (bpfcanon_answer){ .status = BPFCANON_STATUS_FAULT, .cause = cause, .offset = offset };
 }
 
-static inline bpfcanon_answer second_fault(uint32_t cause, uint64_t pos)
+static inline bpfcanon_answer second_fault(uint32_t cause, uint64_t offset)
 {
-	return (bpfcanon_answer){ .status = BPFCANON_FAULT_SECOND, .cause = cause, .pos = pos };
+	return (bpfcanon_answer){ .status = BPFCANON_STATUS_FAULT_SECOND, .cause = cause, .offset = offset };
 }
 
 static inline bpfcanon_answer line_fault(uint32_t cause, uint64_t line)
 {
-	return (bpfcanon_answer){ .status = BPFCANON_FAULT, .cause = cause, .line = line };
+	return (bpfcanon_answer){ .status = BPFCANON_STATUS_FAULT, .cause = cause, .line = line };
 }
 
 static inline bpfcanon_answer needs(size_t len)
 {
-	return (bpfcanon_answer){ .status = BPFCANON_ROOM, .needed = len };
+	return (bpfcanon_answer){ .status = BPFCANON_STATUS_ROOM, .needed = len };
 }
 
 /* What the call on the start of a stream returns for complete instructions of this length. */
 static inline bpfcanon_answer front_of(size_t len)
 {
-	return (bpfcanon_answer){ .status = BPFCANON_DONE, .read = len, .written = len };
+	return (bpfcanon_answer){ .status = BPFCANON_STATUS_DONE, .read = len, .written = len };
 }
 
 /* Likewise if a fault follows them. */
-static inline bpfcanon_answer front_before(size_t len, uint32_t cause, uint64_t pos)
+static inline bpfcanon_answer front_before(size_t len, uint32_t cause, uint64_t offset)
 {
-	return (bpfcanon_answer){ .status = BPFCANON_FAULT, .cause = cause, .pos = pos, .read = len, .written = len };
+	return (bpfcanon_answer){ .status = BPFCANON_STATUS_FAULT, .cause = cause, .offset = offset, .read = len, .written = len };
 }
 
 static inline int is(bpfcanon_answer one, bpfcanon_answer right)
 {
-	return one.status == right.status && one.cause == right.cause && one.pos == right.pos && one.line == right.line
+	return one.status == right.status && one.cause == right.cause && one.offset == right.offset && one.line == right.line
 		&& one.read == right.read && one.written == right.written && one.needed == right.needed && one.types == right.types
 		&& one.groups == right.groups;
 }

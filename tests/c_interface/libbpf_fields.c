@@ -18,17 +18,17 @@ struct file {
 static uint8_t *load_whole(const char *path, size_t *len)
 {
 	FILE *file = fopen(path, "rb");
-	size_t room = 1 << 20;
-	uint8_t *bytes = allocate(room);
+	size_t capacity = 1 << 20;
+	uint8_t *bytes = allocate(capacity);
 
 	if (!file) {
 		perror(path);
 		exit(2);
 	}
 	*len = 0;
-	for (size_t more; (more = fread(bytes + *len, 1, room - *len, file)) > 0;) {
+	for (size_t more; (more = fread(bytes + *len, 1, capacity - *len, file)) > 0;) {
 		*len += more;
-		if (*len == room && !(bytes = realloc(bytes, room *= 2)))
+		if (*len == capacity && !(bytes = realloc(bytes, capacity *= 2)))
 			exit(2);
 	}
 	fclose(file);
@@ -88,8 +88,8 @@ static bpfcanon_btf_type right_type(const struct file *file, const struct btf_ty
 	}
 	if (btf_is_array(theirs)) {
 		right.target = btf_array(theirs)->type;
-		right.index = btf_array(theirs)->index_type;
-		right.count = btf_array(theirs)->nelems;
+		right.index_type = btf_array(theirs)->index_type;
+		right.elements = btf_array(theirs)->nelems;
 	}
 	if (btf_is_decl_tag(theirs))
 		right.component = btf_decl_tag(theirs)->component_idx;
@@ -103,25 +103,25 @@ static bpfcanon_btf_item right_item(const struct btf_type *theirs, uint32_t k, u
 
 	*offset = 0;
 	if (btf_is_composite(theirs)) {
-		right.kind = BPFCANON_MEMBER;
+		right.kind = BPFCANON_BTF_ITEM_KIND_MEMBER;
 		right.target = btf_members(theirs)[k].type;
 		right.bit_offset = btf_member_bit_offset(theirs, k);
 		right.width = btf_member_bitfield_size(theirs, k);
 		*offset = btf_members(theirs)[k].name_off;
 	} else if (btf_is_enum(theirs)) {
-		right.kind = BPFCANON_VALUE;
+		right.kind = BPFCANON_BTF_ITEM_KIND_ENUM_VALUE;
 		right.value = (uint32_t)btf_enum(theirs)[k].val;
 		*offset = btf_enum(theirs)[k].name_off;
 	} else if (btf_is_enum64(theirs)) {
-		right.kind = BPFCANON_VALUE64;
+		right.kind = BPFCANON_BTF_ITEM_KIND_ENUM64_VALUE;
 		right.value = btf_enum64_value(&btf_enum64(theirs)[k]);
 		*offset = btf_enum64(theirs)[k].name_off;
 	} else if (btf_is_func_proto(theirs)) {
-		right.kind = BPFCANON_PARAM;
+		right.kind = BPFCANON_BTF_ITEM_KIND_PARAM;
 		right.target = btf_params(theirs)[k].type;
 		*offset = btf_params(theirs)[k].name_off;
 	} else {
-		right.kind = BPFCANON_ENTRY;
+		right.kind = BPFCANON_BTF_ITEM_KIND_ENTRY;
 		right.target = btf_var_secinfos(theirs)[k].type;
 		right.offset = btf_var_secinfos(theirs)[k].offset;
 		right.size = btf_var_secinfos(theirs)[k].size;
@@ -163,6 +163,18 @@ static void compare_types(const struct file *file, uint32_t count, size_t total)
 	CHECK(first == total);
 }
 
+/* What was decoded is encoded as the canonical BTF. */
+static void encode_again(const struct file *file, uint32_t count, size_t total)
+{
+	uint8_t *encoded, *canonical;
+	bpfcanon_answer right = bpfcanon_btf_canon_new(BPFCANON_ORDER_LITTLE, file->bytes, file->len, &canonical);
+
+	CHECK(is(bpfcanon_btf_encode_new(0, file->types, count, file->items, total, (char *)file->bytes, file->len, &encoded), right));
+	CHECK(encoded && !memcmp(encoded, canonical, right.written));
+	bpfcanon_free(encoded);
+	bpfcanon_free(canonical);
+}
+
 static void compare_file(const char *path)
 {
 	struct file file;
@@ -171,9 +183,11 @@ static void compare_file(const char *path)
 	file.bytes = load_whole(path, &file.len);
 	file.btf = btf__new(file.bytes, file.len);
 	answer = bpfcanon_btf_decode_new(file.bytes, file.len, &file.types, &file.items);
-	CHECK(answer.status == BPFCANON_DONE && file.btf);
-	if (answer.status == BPFCANON_DONE && file.btf)
+	CHECK(answer.status == BPFCANON_STATUS_DONE && file.btf);
+	if (answer.status == BPFCANON_STATUS_DONE && file.btf)
 		compare_types(&file, answer.types, answer.written);
+	if (answer.status == BPFCANON_STATUS_DONE)
+		encode_again(&file, answer.types, answer.written);
 	btf__free(file.btf);
 	bpfcanon_free(file.types);
 	bpfcanon_free(file.items);

@@ -13,10 +13,10 @@
 #include <unistd.h>
 
 #define LONG 4096
-#define CALLS 40
+#define CALLS 45
 
 static const uint8_t exits[] = "\x95\0\0\0\0\0\0\0\x95\0\0\0\0\0\0";
-static const bpfcanon_insn exit_insn = { .form = BPFCANON_EXIT };
+static const bpfcanon_insn exit_insn = { .form = BPFCANON_FORM_EXIT };
 static const uint8_t no_types[] = "\x9f\xeb\x01\0\x18\0\0\0" "\0\0\0\0\0\0\0\0\0\0\0\0" "\1\0\0\0";
 static uint8_t out[LONG], *block;
 static char shown[LONG], *text;
@@ -28,6 +28,9 @@ static bpfcanon_btf_item items[LONG], *new_items;
 static const uint8_t one_enum[] =
 	"\x9f\xeb\x01\0\x18\0\0\0\0\0\0\0\x14\0\0\0\x14\0\0\0\3\0\0\0"
 	"\1\0\0\0\1\0\0\6\4\0\0\0" "\1\0\0\0\7\0\0\0" "\0e";
+
+/* A struct with a name and a member. */
+static const bpfcanon_btf_type named = { .kind = BPFCANON_BTF_KIND_STRUCT, .items = 1, .name = 1, .name_len = 1, .size = 4 };
 
 #define CALL(call) case __LINE__ - FIRST: call; return 1;
 #define OBJECT_BYTES (const uint8_t *)&OBJECT, sizeof OBJECT
@@ -62,6 +65,11 @@ static int make(int number)
 	CALL(bpfcanon_insn_show(0, exits, sizeof exits, NULL, LONG))
 	CALL(bpfcanon_btf_canon_new(0, NULL, LONG, &block))
 	CALL(bpfcanon_btf_show_new(NULL, LONG, &text))
+	CALL(bpfcanon_btf_encode(0, NULL, LONG, NULL, 0, NULL, 0, out, sizeof out))
+	CALL(bpfcanon_btf_encode(0, &named, 1, NULL, LONG, "\0n", 3, out, sizeof out))
+	CALL(bpfcanon_btf_encode(0, &named, 1, items, LONG, NULL, LONG, out, sizeof out))
+	CALL(bpfcanon_btf_encode(0, NULL, 0, NULL, 0, NULL, 0, NULL, LONG))
+	CALL(bpfcanon_btf_encode_new(0, NULL, LONG, NULL, 0, NULL, 0, &block))
 	CALL(bpfcanon_btf_decode_new(NULL, LONG, &new_types, &new_items))
 	CALL(bpfcanon_insn_canon_new(0, 1, NULL, LONG, &block))
 	CALL(bpfcanon_insn_decode_new(0, NULL, LONG, &new_insns))

@@ -28,8 +28,8 @@ def compare(bpfcanon):
     def answer(call, *given, **orders):
         try:
             return call(*given, **orders)
-        except bpfcanon.Fault as fault:
-            return fault.pos, fault.cause.label
+        except bpfcanon.FaultError as fault:
+            return fault.offset, fault.cause.label
 
     def compare(file, origin):
         fault = btf_reference.first_fault(file)

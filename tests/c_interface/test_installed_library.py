@@ -32,9 +32,10 @@ def printed(words, **variables):
 
 
 def declared():
-    """The calls that the header declares, without its macros."""
+    """The calls that the header declares, without its macros and inline functions."""
     text = re.sub(r"^#define (?:.*\\\n)*.*$", "", re.sub(r"/\*.*?\*/", "", HEADER, flags=re.DOTALL), flags=re.MULTILINE)
-    return sorted(set(re.findall(r"\b(bpfcanon_\w+)\(", text)))
+    inline = re.findall(r"^BPFCANON_INLINE \w+ (bpfcanon_\w+)\(", text, re.MULTILINE)
+    return sorted(set(re.findall(r"\b(bpfcanon_\w+)\(", text)) - set(inline))
 
 
 @pytest.fixture
@@ -105,7 +106,7 @@ PROGRAM = """#include <bpfcanon.h>
 int main(void)
 {
 	puts(bpfcanon_version());
-	return (int)bpfcanon_insn_show(BPFCANON_LITTLE, NULL, 0, NULL, 0).status;
+	return (int)bpfcanon_insn_show(BPFCANON_ORDER_LITTLE, NULL, 0, NULL, 0).status;
 }
 """
 

@@ -75,28 +75,28 @@ static uint32_t number_of(const char *(*name)(uint32_t), const char *cause)
 /* --- Calls in one shape --- */
 
 struct call {
-	bpfcanon_answer (*run)(const struct call *call, uint8_t *out, size_t room);
+	bpfcanon_answer (*run)(const struct call *call, uint8_t *out, size_t capacity);
 	uint32_t order, to;
 	struct bytes given;
 };
 
-static bpfcanon_answer insn_canon(const struct call *c, uint8_t *out, size_t room) { return bpfcanon_insn_canon(c->order, c->to, c->given.at, c->given.len, out, room); }
-static bpfcanon_answer insn_show(const struct call *c, uint8_t *out, size_t room) { return bpfcanon_insn_show(c->order, c->given.at, c->given.len, (char *)out, room); }
-static bpfcanon_answer insn_read(const struct call *c, uint8_t *out, size_t room) { return bpfcanon_insn_read(c->to, (char *)c->given.at, c->given.len, out, room); }
-static bpfcanon_answer btf_canon(const struct call *c, uint8_t *out, size_t room) { return bpfcanon_btf_canon(c->to, c->given.at, c->given.len, out, room); }
-static bpfcanon_answer btf_show(const struct call *c, uint8_t *out, size_t room) { return bpfcanon_btf_show(c->given.at, c->given.len, (char *)out, room); }
+static bpfcanon_answer insn_canon(const struct call *c, uint8_t *out, size_t capacity) { return bpfcanon_insn_canon(c->order, c->to, c->given.at, c->given.len, out, capacity); }
+static bpfcanon_answer insn_show(const struct call *c, uint8_t *out, size_t capacity) { return bpfcanon_insn_show(c->order, c->given.at, c->given.len, (char *)out, capacity); }
+static bpfcanon_answer insn_read(const struct call *c, uint8_t *out, size_t capacity) { return bpfcanon_insn_read(c->to, (char *)c->given.at, c->given.len, out, capacity); }
+static bpfcanon_answer btf_canon(const struct call *c, uint8_t *out, size_t capacity) { return bpfcanon_btf_canon(c->to, c->given.at, c->given.len, out, capacity); }
+static bpfcanon_answer btf_show(const struct call *c, uint8_t *out, size_t capacity) { return bpfcanon_btf_show(c->given.at, c->given.len, (char *)out, capacity); }
 
 /* The call writes this output, and nothing after it or if the buffer is too short. */
 static void writes(struct call call, struct bytes right)
 {
 	uint8_t *out = allocate(right.len + SPARE);
 
-	for (size_t room = 0; room < right.len + SPARE; room = room + 1 < right.len ? right.len - 1 : room + 1) {
+	for (size_t capacity = 0; capacity < right.len + SPARE; capacity = capacity + 1 < right.len ? right.len - 1 : capacity + 1) {
 		bpfcanon_answer answer;
 
 		memset(out, 0xaa, right.len + SPARE);
-		answer = call.run(&call, out, room);
-		if (room < right.len)
+		answer = call.run(&call, out, capacity);
+		if (capacity < right.len)
 			CHECK(is(answer, needs(right.len)) && is_filled(out, out + right.len + SPARE));
 		else
 			CHECK(is(answer, written(right.len)) && !memcmp(out, right.at, right.len) && is_filled(out + right.len, out + right.len + SPARE));
@@ -136,28 +136,28 @@ static void try_insn(void)
 
 		for (uint32_t to = 0; to < 2; to++) {
 			writes((struct call){ insn_canon, order, to, program[order] }, program[to]);
-			CHECK(is(bpfcanon_insn_same(order, at, len, to, program[to].at, len), ended(BPFCANON_DONE)));
+			CHECK(is(bpfcanon_insn_same(order, at, len, to, program[to].at, len), ended(BPFCANON_STATUS_DONE)));
 		}
 		writes((struct call){ insn_show, order, 0, program[order] }, line);
 		writes((struct call){ insn_read, 0, order, line }, program[order]);
 		CHECK(is(bpfcanon_insn_groups(order, at, len), with_groups(mask_of(fields[4]))));
-		CHECK(is(bpfcanon_insn_same(order, at, len, order, at, 0), ended(BPFCANON_DIFFERENT)));
+		CHECK(is(bpfcanon_insn_same(order, at, len, order, at, 0), ended(BPFCANON_STATUS_DIFFERENT)));
 	}
 }
 
 static void try_insn_fault(void)
 {
 	uint32_t cause = number_of(bpfcanon_insn_cause_name, fields[5]);
-	uint64_t pos = strtoull(fields[4], NULL, 10);
+	uint64_t offset = strtoull(fields[4], NULL, 10);
 
 	for (uint32_t order = 0; order < 2; order++) {
 		struct bytes given = data(fields[2 + order]);
 
-		ends((struct call){ insn_canon, order, 0, given }, fault(cause, pos));
-		ends((struct call){ insn_show, order, 0, given }, fault(cause, pos));
-		CHECK(is(bpfcanon_insn_groups(order, given.at, given.len), fault(cause, pos)));
-		CHECK(is(bpfcanon_insn_same(order, given.at, given.len, 0, given.at, 0), fault(cause, pos)));
-		CHECK(is(bpfcanon_insn_same(0, given.at, 0, order, given.at, given.len), second_fault(cause, pos)));
+		ends((struct call){ insn_canon, order, 0, given }, fault(cause, offset));
+		ends((struct call){ insn_show, order, 0, given }, fault(cause, offset));
+		CHECK(is(bpfcanon_insn_groups(order, given.at, given.len), fault(cause, offset)));
+		CHECK(is(bpfcanon_insn_same(order, given.at, given.len, 0, given.at, 0), fault(cause, offset)));
+		CHECK(is(bpfcanon_insn_same(0, given.at, 0, order, given.at, given.len), second_fault(cause, offset)));
 	}
 }
 
@@ -167,7 +167,7 @@ static void try_listing(void)
 	uint8_t program[256];
 	bpfcanon_answer read = bpfcanon_insn_read(0, (char *)given.at, given.len, program, sizeof program);
 
-	CHECK(read.status == BPFCANON_DONE);
+	CHECK(read.status == BPFCANON_STATUS_DONE);
 	writes((struct call){ insn_read, 0, 0, shown }, (struct bytes){ program, read.written });
 	writes((struct call){ insn_show, 0, 0, { program, read.written } }, shown);
 }
@@ -188,7 +188,7 @@ static void try_btf(void)
 			writes((struct call){ btf_canon, 0, to, files[k] }, files[to]);
 		writes((struct call){ btf_show, 0, 0, files[k] }, shown);
 		CHECK(is(bpfcanon_btf_check(files[k].at, files[k].len), with_types(strtoul(fields[5], NULL, 10))));
-		CHECK(is(bpfcanon_btf_same(files[k].at, files[k].len, files[0].at, files[0].len), ended(BPFCANON_DONE)));
+		CHECK(is(bpfcanon_btf_same(files[k].at, files[k].len, files[0].at, files[0].len), ended(BPFCANON_STATUS_DONE)));
 	}
 }
 
@@ -196,16 +196,16 @@ static void try_btf_fault(void)
 {
 	static const char good[] = "\x9f\xeb\x01\0\x18\0\0\0\0\0\0\0\0\0\0\0\0\0\0\0\x01\0\0\0\0";
 	uint32_t cause = number_of(bpfcanon_btf_cause_name, fields[5]);
-	uint64_t pos = strtoull(fields[4], NULL, 10);
+	uint64_t offset = strtoull(fields[4], NULL, 10);
 
 	for (size_t k = 2; k < 4; k++) {
 		struct bytes given = data(fields[k]);
 
-		ends((struct call){ btf_canon, 0, 0, given }, fault(cause, pos));
-		ends((struct call){ btf_show, 0, 0, given }, fault(cause, pos));
-		CHECK(is(bpfcanon_btf_check(given.at, given.len), fault(cause, pos)));
-		CHECK(is(bpfcanon_btf_same(given.at, given.len, given.at, 0), fault(cause, pos)));
-		CHECK(is(bpfcanon_btf_same(BYTES(good), given.at, given.len), second_fault(cause, pos)));
+		ends((struct call){ btf_canon, 0, 0, given }, fault(cause, offset));
+		ends((struct call){ btf_show, 0, 0, given }, fault(cause, offset));
+		CHECK(is(bpfcanon_btf_check(given.at, given.len), fault(cause, offset)));
+		CHECK(is(bpfcanon_btf_same(given.at, given.len, given.at, 0), fault(cause, offset)));
+		CHECK(is(bpfcanon_btf_same(BYTES(good), given.at, given.len), second_fault(cause, offset)));
 	}
 }
 

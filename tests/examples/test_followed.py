@@ -11,6 +11,7 @@ import pytest
 from tests import TOP
 from tests.examples.conftest import Page, Place
 from tests.needs import need
+from tests.samples import btf
 
 COMPILED = ("bash", "clang")
 NEEDS = {
@@ -38,6 +39,15 @@ def test_commands(object_program: Path, tmp_path: Path, name: str) -> None:
 def test_programs_over_the_library(object_program: Path, prefix: Path, tmp_path: Path, name: str) -> None:
     need(*OVER_LIBRARY[name])
     assert_followed(Place(tmp_path, object_program, prefix), name)
+
+
+def test_members_whose_types_have_no_name(object_program: Path, prefix: Path, tmp_path: Path) -> None:
+    """A PTR to the INT before it, as a member: the first type is `int`, and the second has no name."""
+    need(*OVER_LIBRARY["members_c"])
+    place, words = Place(tmp_path, object_program, prefix), [1, 0x0100_0000, 4, 0x0100_0020, 0, 0x0200_0000, 1, 5, 0x0400_0001, 8, 7, 2, 0]
+    (tmp_path / "types.btf").write_bytes(btf("little", words, b"\0int\0s\0a\0"))
+    commands = Page.read(TOP / "examples" / "members_c" / "README.md").commands
+    assert place.follow(f"{commands.partition(' < ')[0]} < types.btf").stdout == "s.a 0 -\n"
 
 
 @pytest.mark.needs(*COMPILED, "python3-yaml")

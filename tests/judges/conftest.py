@@ -3,6 +3,8 @@
 from __future__ import annotations
 
 import collections
+import contextlib
+import hashlib
 import os
 import subprocess
 from pathlib import Path
@@ -10,12 +12,13 @@ from typing import Any, Callable, Iterable, Iterator
 
 import pytest
 
-from tests import TOP
 from tests.judges import loaders, objects
 from tests.needs import need
 from tests.reference import object_reference
 
 Canon = Callable[[bytes], bytes]
+Keys = Callable[[list[bytes]], list[str]]
+PROGRAM = os.environ.get("BPFCANON_OBJECT")
 Tally = dict[str, collections.Counter[str]]
 TALLY: Tally = collections.defaultdict(collections.Counter)
 
@@ -40,7 +43,6 @@ def folder(tmp_path_factory: pytest.TempPathFactory) -> Path:
 @pytest.fixture(scope="session")
 def canon(folder: Path) -> Canon:
     """What gives the canonical file of an object, or raises Refused."""
-    program = os.environ.get("BPFCANON_OBJECT")
 
     def by_reference(data: bytes) -> bytes:
         try:
@@ -51,21 +53,51 @@ def canon(folder: Path) -> Canon:
     def by_program(data: bytes) -> bytes:
         path = folder / "input.o"
         path.write_bytes(data)
-        done = subprocess.run([str(program), "canon", path], capture_output=True, check=False)
+        done = subprocess.run([str(PROGRAM), "canon", path], capture_output=True, check=False)
         assert done.returncode in (0, 1), done.stderr
         if done.returncode:
             raise Refused(done.stderr.decode())
         return done.stdout
 
-    return by_program if program else by_reference
+    return by_program if PROGRAM else by_reference
 
 
-@pytest.fixture(scope="session", params=["libbpf", "cilium"])
+@pytest.fixture(scope="session")
+def keys(canon: Canon, folder: Path) -> Keys:
+    """What gives the keys of objects, which are the SHA-256 of their canonical files; that of a refused one is empty."""
+
+    def by_reference(batch: list[bytes]) -> list[str]:
+        found = [""] * len(batch)
+        for number, data in enumerate(batch):
+            with contextlib.suppress(Refused):
+                found[number] = hashlib.sha256(canon(data)).hexdigest()
+        return found
+
+    def by_program(batch: list[bytes]) -> list[str]:
+        for number, data in enumerate(batch):
+            (folder / f"{number}.o").write_bytes(data)
+        line = [str(PROGRAM), "key", *(f"{number}.o" for number in range(len(batch)))]
+        done = subprocess.run(line, cwd=folder, capture_output=True, text=True, check=False)
+        assert done.returncode in (0, 1), done.stderr
+        found = {name: key for key, _, name in (it.partition("  ") for it in done.stdout.splitlines())}
+        return [found.get(f"{number}.o", "") for number in range(len(batch))]
+
+    return by_program if PROGRAM else by_reference
+
+
+@pytest.fixture(scope="session", params=loaders.NEEDED)
 def loader(request: pytest.FixtureRequest, folder: Path) -> Iterator[loaders.Loader]:
     need(*loaders.NEEDED[request.param])
-    found = loaders.Loader(request.param, folder)
-    yield found
-    found.close()
+    with contextlib.closing(loaders.Loader(request.param, folder)) as found:
+        yield found
+
+
+@pytest.fixture(scope="session")
+def both(folder: Path) -> Iterator[list[loaders.Loader]]:
+    """Both loaders."""
+    need(*(tool for tools in loaders.NEEDED.values() for tool in tools))
+    with contextlib.ExitStack() as stack:
+        yield [stack.enter_context(contextlib.closing(loaders.Loader(it, folder))) for it in loaders.NEEDED]
 
 
 def each(made: Iterable[objects.Made]) -> pytest.MarkDecorator:

@@ -2,11 +2,13 @@
 
 from __future__ import annotations
 
+import contextlib
 import os
 import struct
 import subprocess
+import threading
 from pathlib import Path
-from typing import Optional
+from typing import IO, Optional
 
 from tests.objects.bases import INSTALLED
 from tests.objects.views import build, static_libbpf
@@ -25,22 +27,48 @@ class Loader:
         self._process: Optional[subprocess.Popen[bytes]] = None
 
     def view(self, content: bytes) -> bytes:
-        """What the loader says of an object, whose bytes may end it."""
-        if self._process is None:
-            self._process = subprocess.Popen(self._line, stdin=subprocess.PIPE, stdout=subprocess.PIPE)
-        assert self._process.stdin and self._process.stdout
-        self._process.stdin.write(struct.pack("<I", len(content)) + content)
-        self._process.stdin.flush()
-        head = self._process.stdout.read(4)
-        if len(head) == 4:
-            return self._process.stdout.read(*struct.unpack("<I", head))
-        self.close()
-        return b"the loader ends"
+        """What the loader says of an object."""
+        return self.views([content])[0]
+
+    def views(self, contents: list[bytes]) -> list[bytes]:
+        """What it says of each object, whose bytes may end it. The next ones are sent while it answers."""
+        found: list[bytes] = []
+        while len(found) < len(contents):
+            if self._process is None:
+                self._process = subprocess.Popen(self._line, stdin=subprocess.PIPE, stdout=subprocess.PIPE)
+            assert self._process.stdin and self._process.stdout
+            sender = threading.Thread(target=send, args=[self._process.stdin, contents[len(found) :]])
+            sender.start()
+            found += answers(self._process.stdout, len(contents) - len(found))
+            if len(found) < len(contents):
+                self.close()
+                found.append(b"the loader ends")
+            sender.join()
+        return found
 
     def close(self) -> None:
         if self._process:
-            self._process.communicate()
+            self._process.kill()
+            self._process.wait()
         self._process = None
+
+
+def send(stream: IO[bytes], contents: list[bytes]) -> None:
+    with contextlib.suppress(OSError, ValueError):
+        for content in contents:
+            stream.write(struct.pack("<I", len(content)) + content)
+            stream.flush()
+
+
+def answers(stream: IO[bytes], count: int) -> list[bytes]:
+    """As many answers, or those before the end of the loader."""
+    found = []
+    while len(found) < count:
+        head = stream.read(4)
+        if len(head) < 4:
+            break
+        found.append(stream.read(*struct.unpack("<I", head)))
+    return found
 
 
 def is_accepted(view: bytes) -> bool:

@@ -3,6 +3,7 @@
 from __future__ import annotations
 
 import functools
+import re
 import subprocess
 from dataclasses import dataclass
 from pathlib import Path
@@ -13,10 +14,18 @@ from tests.objects.bases import DEBUG, INSTALLED, SOURCES, compile_source
 
 ORDERS = {"little": "bpfel", "big": "bpfeb"}
 TRIED_TOO = ("-O1", "-mcpu=v2", "-mcpu=v3")
+# Sources that are compiled in one way only, with their macros: those of other tests, and each part of kinds.c.
+KINDS = TOP / "tests/judges/kinds.c"
+OTHERS: dict[str, tuple[str, ...]] = {
+    "bindings/python/tests/compiled/flows.c": ("-DENTRIES=16", "-DLIMIT=10", "-DRETURNS=2"),
+    **{f"testdata/objects/{it}.c": () for it in ("calls", "core", "data", "externs", "maps")},
+    **dict.fromkeys(("examples/bazel/allow.c", "examples/bazel/deny.c", "tests/examples/two.c", "tests/objects/sources/kernel.c"), ()),
+}
 # What tools make of an object; IN and OUT stand for both files. libbpf links only what has the byte order of the processor.
 TOOLS = {
     "stripped": ("llvm-strip", "-g", "IN", "-o", "OUT"),
     "copied": ("llvm-objcopy", "IN", "OUT"),
+    "compressed": ("llvm-objcopy", "--compress-debug-sections", "IN", "OUT"),
     "unneeded": ("llvm-strip", "--strip-unneeded", "IN", "-o", "OUT"),
     "linked": ("bpftool", "gen", "object", "OUT", "IN"),
 }
@@ -48,6 +57,9 @@ def all_made() -> Iterator[Made]:
             for flags in (*variants, *((*typed[0], it) for it in TRIED_TOO)):
                 yield Made(TOP / path, order, flags)
             yield from (Made(TOP / path, order, typed[0], it) for it in TOOLS if (order, it) != ("big", "linked"))
+    kinds = re.findall(r"^#(?:el)?if defined\((\w+)\)", KINDS.read_text(), re.MULTILINE)
+    singles = [*((TOP / path, flags) for path, flags in OTHERS.items()), *((KINDS, (f"-D{it}",)) for it in kinds)]
+    yield from (Made(path, order, ("-g", "-mcpu=v3", *flags)) for path, flags in singles for order in ORDERS)
     yield from map(Made, sorted(INSTALLED.glob("*.elf")))
     # cilium/ebpf refuses a part of .BTF.ext without records.
     accepted = (row.file for row in object_vectors.rows() if row.key and "no_parts" not in row.file)

@@ -1,73 +1,149 @@
-"""What changes the bytes of a canonical file: docs/OBJECTS.md names these figures."""
+"""What changes a canonical file: each row of the table of README.md, for each source that the tests compile."""
 
 from __future__ import annotations
 
-from dataclasses import dataclass
+import contextlib
+import re
+import subprocess
 from pathlib import Path
-from typing import Callable, Optional
+from typing import Callable, Iterator, NamedTuple
 
 import pytest
 
 from tests import TOP
 from tests.judges import objects
-from tests.judges.conftest import Canon
+from tests.judges.objects import KINDS, OTHERS
 from tests.needs import need
-from tests.objects.bases import SOURCES, compile_source
+from tests.objects.bases import SOURCES, kernel_headers
+
+FUNCTION = re.compile(r"^(?!#)(\S[^\n;]*?\b(\w+)\))( \{ [^\n]* \}|\n\{\n.*?\n\})$", re.MULTILINE | re.DOTALL)
+LOCAL = re.compile(r"^\t(?!return |static |goto )(?:(?:const|enum|struct|unsigned) )*\w+ \**(\w+)(?:\[\w*\])?(?= =|;|,)", re.MULTILINE)
+UNUSED = "/* a note */\n#define UNUSED 1\nstruct unused { int member; };\nstatic inline int unused(void) { return UNUSED; }\n"
+Texts = dict[str, str]
+Objects = dict[str, bytes]
 
 
-@dataclass(frozen=True)
-class Compiled:
-    """A source with its flags, and the folder in which its objects are made."""
+class Row(NamedTuple):
+    """A row of the table: a change, how many sources it can be made to, and how many object files and canonical files it changes."""
 
-    source: Path
-    flags: tuple[str, ...]
-    folder: Path
-
-    def object(self, *flags: str, order: str = "little", source: Optional[Path] = None) -> Optional[bytes]:
-        """The object of the source; None if it doesn't compile so."""
-        path = self.folder / "compiled.o"
-        is_made = compile_source(source or self.source, objects.ORDERS[order], (*self.flags, *flags, f"-I{self.source.parent}"), path)
-        return path.read_bytes() if is_made else None
-
-    def moved(self) -> Optional[bytes]:
-        """The source in another folder, with its lines moved by a comment."""
-        other = self.folder / "elsewhere"
-        other.mkdir(exist_ok=True)
-        (other / self.source.name).write_text(f"/* moved\n\n*/\n{self.source.read_text()}")
-        return self.object(source=other / self.source.name)
-
-    def changed(self, tool: str) -> Optional[bytes]:
-        return objects.changed(self.object() or b"", tool, self.folder)
+    change: str
+    figures: tuple[int, ...]
+    reason: str
 
 
-@dataclass(frozen=True)
-class Way:
-    """A way to change an object, how many objects it has, and how many of these keep their bytes and their canonical file."""
-
-    change: Callable[[Compiled], Optional[bytes]]
-    objects: int
-    same_bytes: int
-    same_canonical: int
+def rows() -> list[Row]:
+    part = (TOP / "tests/judges/README.md").read_text().partition("\n## What changes a canonical file\n")[2].partition("\n## ")[0]
+    found = re.findall(r"^\| ([^|]+) \| (\d+) \| (\d+) \| (\d+) \| ([^|]*)\|$", part, re.MULTILINE)
+    return [Row(change, tuple(map(int, figures)), reason) for change, *figures, reason in found]
 
 
-WAYS = {
-    "another folder, and lines moved by a comment": Way(Compiled.moved, 13, 0, 13),
-    "llvm-strip -g": Way(lambda it: it.changed("stripped"), 13, 0, 13),
-    "llvm-objcopy": Way(lambda it: it.changed("copied"), 13, 0, 13),
-    "bpftool gen object": Way(lambda it: it.changed("linked"), 13, 0, 0),
-    "llvm-strip --strip-unneeded": Way(lambda it: it.changed("unneeded"), 13, 0, 1),
-    "without -g": Way(lambda it: it.object("-g0"), 12, 0, 0),
-    "-O1": Way(lambda it: it.object("-O1"), 13, 12, 12),
-    "-mcpu=v2": Way(lambda it: it.object("-mcpu=v2"), 13, 9, 9),
-    "big-endian": Way(lambda it: it.object(order="big"), 13, 0, 0),
+def sources() -> Iterator[tuple[str, str]]:
+    """The name of each source, and its text with its macros."""
+    for path, flags in [*((path, variants[0]) for path, variants in SOURCES), *OTHERS.items()]:
+        macros = "".join(f"#define {it[2:].replace('=', ' ')}\n" for it in flags if it.startswith("-D"))
+        yield path.replace("/", "-"), macros + (TOP / path).read_text()
+    head, *parts = re.split(r"^#(?:el)?if defined\((\w+)\) ", KINDS.read_text().replace("#endif", ""), flags=re.MULTILINE)
+    yield from ((f"{kind}.c", head + part) for kind, part in zip(parts[::2], parts[1::2]))
+
+
+def compiled(texts: Texts, folder: Path, *flags: str) -> Objects:
+    """The objects of sources in a folder, by one run of clang; those that it refuses are missing."""
+    folder.mkdir(exist_ok=True)
+    for name, text in texts.items():
+        (folder / name).write_text(text)
+    line = ["clang", "-target", "bpfel", "-mcpu=v3", "-O2", "-g", f"-I{kernel_headers()}", *flags, "-c"]
+    paths = [folder / name for name in texts]
+    subprocess.run([*line, *paths], cwd=folder, capture_output=True, check=False)
+    made = {it.name: it.with_suffix(".o") for it in paths}
+    found = {name: path.read_bytes() for name, path in made.items() if path.exists()}
+    for path in folder.iterdir():
+        path.unlink()
+    return found
+
+
+@pytest.fixture(scope="session")
+def base(folder: Path) -> Objects:
+    """The objects that are changed, or that others are compared with."""
+    need("clang", "cc", "llvm-strip", "llvm-objcopy", "bpftool")
+    if "version 14." not in subprocess.run(["clang", "--version"], capture_output=True, text=True, check=True).stdout:
+        pytest.skip("another clang makes other objects")
+    return compiled(dict(sources()), folder / "sources")
+
+
+@pytest.fixture(scope="session")
+def base_keys(base: Objects, object_program: Path, folder: Path) -> dict[str, str]:
+    return keys(base, object_program, folder)
+
+
+def keys(made: Objects, program: Path, folder: Path) -> dict[str, str]:
+    """The keys of objects, by the built command."""
+    for name, data in made.items():
+        (folder / name).write_bytes(data)
+    done = subprocess.run([program, "key", *made], cwd=folder, capture_output=True, text=True, check=True)
+    return {name: key for key, _, name in (line.partition("  ") for line in done.stdout.splitlines())}
+
+
+def renamed(name: str, text: str) -> str:
+    """A variable with another name, and no type or member of its name."""
+    return re.sub(rf"(?<![\w.>])(?<!struct ){name}\b", f"other_{name}", text)
+
+
+def with_local_renamed(function: re.Match[str]) -> str:
+    local = LOCAL.search(function[3])
+    return function[1] + (renamed(local[1], function[3]) if local else function[3])
+
+
+Way = Callable[[Objects, Path], Objects]
+
+
+def by_source(rewrite: Callable[[str], str]) -> Way:
+    """Other texts, for the sources that have what is rewritten."""
+    texts = {name: (text, rewrite(text)) for name, text in sources()}
+    return lambda base, folder: compiled({name: other for name, (text, other) in texts.items() if other != text}, folder / "sources")
+
+
+def by_flags(*flags: str) -> Way:
+    return lambda base, folder: compiled(dict(sources()), folder / "sources", *flags)
+
+
+def by_tool(tool: str) -> Way:
+    def way(base: Objects, folder: Path) -> Objects:
+        found = {}
+        for name, data in base.items():
+            with contextlib.suppress(subprocess.CalledProcessError):
+                found[name] = objects.changed(data, tool, folder)
+        return found
+
+    return way
+
+
+WAYS: dict[str, Way] = {
+    "a comment, and an unused macro, type and function": by_source(lambda text: UNUSED + text),
+    "a local variable with another name": by_source(lambda text: FUNCTION.sub(with_local_renamed, text)),
+    "a parameter with another name": by_source(lambda text: FUNCTION.sub(lambda it: renamed(it[2], it[0]), text)),
+    "another folder": lambda base, folder: compiled(dict(sources()), folder / "elsewhere"),
+    "`-O1`": by_flags("-O1"),
+    "`-mcpu=v2`": by_flags("-mcpu=v2"),
+    "no `-g`": by_flags("-g0"),
+    "big-endian": by_flags("-target", "bpfeb"),
+    "`llvm-strip -g`": by_tool("stripped"),
+    "`llvm-objcopy`": by_tool("copied"),
+    "`llvm-objcopy --compress-debug-sections`": by_tool("compressed"),
+    "`llvm-strip --strip-unneeded`": by_tool("unneeded"),
+    "`bpftool gen object`": by_tool("linked"),
 }
 
 
-@pytest.mark.parametrize("name", WAYS)
-def test_what_changes_the_bytes(name: str, canon: Canon, folder: Path) -> None:
-    need("clang", "cc", "llvm-strip", "llvm-objcopy", "bpftool")
-    way = WAYS[name]
-    typed = (Compiled(TOP / path, next(it for it in variants if it), folder) for path, variants in SOURCES)
-    pairs = [(one, other) for one, other in ((it.object(), way.change(it)) for it in typed) if one and other]
-    same = sum(one == other for one, other in pairs), sum(canon(one) == canon(other) for one, other in pairs)
-    assert (len(pairs), *same) == (way.objects, way.same_bytes, way.same_canonical)
+def test_table() -> None:
+    assert [it.change for it in rows()] == [*WAYS]
+
+
+@pytest.mark.parametrize("row", rows(), ids=[it.change for it in rows()])
+def test_what_changes(row: Row, base: Objects, base_keys: dict[str, str], object_program: Path, folder: Path) -> None:
+    """If the page names sources in a row, their canonical files change, and no others."""
+    made = WAYS[row.change](base, folder)
+    found = keys(made, object_program, folder)
+    changed = {it for it in made if found[it] != base_keys[it]}
+    assert (len(made), sum(made[it] != base[it] for it in made), len(changed)) == row.figures
+    named = {it for it in base if f"`{it.replace('-', '/')}`" in row.reason or f"`{it[:-2]}`" in row.reason}
+    assert named in (set(), changed)

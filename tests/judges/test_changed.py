@@ -2,26 +2,26 @@
 
 from __future__ import annotations
 
-import contextlib
 import hashlib
 import os
 import re
 import struct
 from pathlib import Path
-from typing import Iterator
 
 import pytest
 
 from tests import TOP
 from tests.judges import objects
-from tests.judges.conftest import Canon, Refused, Tally
+from tests.judges.conftest import Canon, Keys, Refused, Tally
 from tests.judges.loaders import Loader, is_accepted
 from tests.needs import need
 from tests.objects.bases import all_bases
 from tests.objects.changes import Base, Changed, changed
+from tests.reference import object_reference
 
 COUNT, SEED = int(os.environ.get("CHANGED_OBJECTS", "2000")), os.environ.get("CHANGED_SEED", "1")
-FEWEST = COUNT // 3  # accepted objects: fewer would test little
+PARTS, BATCH = 2, 200
+FEWEST = COUNT // PARTS // 3  # accepted objects: fewer would test little
 TRIES = 20
 HEADER = {
     "EI_MAG": 4, "EI_CLASS": 1, "EI_DATA": 1, "EI_VERSION": 1, "EI_OSABI": 1, "EI_ABIVERSION": 1, "EI_PAD": 7, "e_type": 2,
@@ -47,6 +47,7 @@ WRITTEN = (".BTF", ".BTF.ext", ".symtab", ".strtab")
 SHT_NOBITS, SHT_REL = 8, 9
 WAYS = (0x01, 0x80, 0xFF)
 Place = tuple[str, str]
+Views = dict[str, tuple[bytes, ...]]  # the digests of what the loaders say of a canonical file, by its key
 
 
 @pytest.fixture(scope="session")
@@ -59,39 +60,39 @@ def digest(content: bytes) -> bytes:
     return hashlib.sha256(content).digest()
 
 
-def accepted(bases: list[Base], canon: Canon) -> Iterator[tuple[Changed, bytes]]:
-    """The changed objects that have a canonical file, with it."""
-    for number in range(COUNT):
-        one = changed(bases, SEED, number)
-        with contextlib.suppress(Refused):
-            yield one, canon(one.content)
+def word_for(loader: Loader, content: bytes, view: bytes, known: bytes) -> str:
+    """Whether a view of an object is that of its canonical file. cilium/ebpf reads either of two sections with one name, at random, so it is
+    asked again; what it refuses, it may take then."""
+    if digest(view) == known or is_accepted(view) and any(digest(loader.view(content)) == known for _ in range(TRIES)):
+        return "the same"
+    return "refused, and then accepted" if loader.name == "cilium" and not is_accepted(view) else "other"
 
 
-def has_view(loader: Loader, content: bytes, view: bytes, known: bytes) -> bool:
-    """Whether a view of an object is the known one. cilium/ebpf reads either of two sections with one name, at random, so it is asked again."""
-    return digest(view) == known or is_accepted(view) and any(digest(loader.view(content)) == known for _ in range(TRIES))
+def canonical_files(batch: list[Changed], found: list[str], views: Views, keys: Keys) -> dict[str, bytes]:
+    """The new canonical files, which the reference writes: their SHA-256 are the keys, and their own ones."""
+    new = {key: object_reference.canonical(one.content) for one, key in zip(batch, found) if key and key not in views}
+    assert [*new] == [hashlib.sha256(it).hexdigest() for it in new.values()] == keys([*new.values()])
+    return new
 
 
-def test_equal_bytes_mean_equal_views(bases: list[Base], loader: Loader, canon: Canon, tally: Tally) -> None:
-    """A view of a canonical file is the one of each object that has it. What cilium/ebpf refuses, it may take then."""
-    views: dict[bytes, bytes] = {}
-    counts, wrong = tally[f"{loader.name}, changed objects"], []
-    for one, canonical in accepted(bases, canon):
-        view, key = loader.view(one.content), digest(canonical)
-        known = views.get(key) or views.setdefault(key, digest(loader.view(canonical)))
-        is_repaired = loader.name == "cilium" and not is_accepted(view)
-        word = "the same" if has_view(loader, one.content, view, known) else "refused, and then accepted" if is_repaired else "other"
-        counts[f"{word}, {'accepted' if is_accepted(view) else 'refused'}"] += 1
-        wrong += [str(one)] if word == "other" else []
-    counts["canonical files"] = len(views)
-    assert not wrong[:20]
-
-
-def test_changed_canonical_file_is_canonical(bases: list[Base], canon: Canon, tally: Tally) -> None:
-    count, wrong = 0, []
-    for count, (one, canonical) in enumerate(accepted(bases, canon), 1):
-        wrong += [str(one)] if canon(canonical) != canonical else []
-    tally["changed objects"].update({"accepted": count, "refused": COUNT - count})
+@pytest.mark.parametrize("part", range(PARTS))
+def test_equal_bytes_mean_equal_views(part: int, bases: list[Base], both: list[Loader], keys: Keys, tally: Tally) -> None:
+    """The views of a canonical file are those of each object that has it."""
+    views: Views = {}
+    wrong, count = [], 0
+    for first in range(part * BATCH, COUNT, PARTS * BATCH):
+        batch = [changed(bases, SEED, number) for number in range(first, min(first + BATCH, COUNT))]
+        found = keys([it.content for it in batch])
+        new = canonical_files(batch, found, views, keys)
+        views |= zip(new, zip(*([digest(it) for it in loader.views([*new.values()])] for loader in both)))
+        accepted = [(one, key) for one, key in zip(batch, found) if key]
+        for number, loader in enumerate(both):
+            for (one, key), view in zip(accepted, loader.views([it.content for it, _ in accepted])):
+                word = word_for(loader, one.content, view, views[key][number])
+                tally[f"{loader.name}, changed objects"][f"{word}, {'accepted' if is_accepted(view) else 'refused'}"] += 1
+                wrong += [f"{loader.name}: {one}"] if word == "other" else []
+        count += len(accepted)
+        tally["changed objects"].update({"accepted": len(accepted), "refused": len(batch) - len(accepted), "canonical files": len(new)})
     assert not wrong[:20]
     assert count >= FEWEST
 

@@ -55,14 +55,14 @@ def go(prefix, tmp_path_factory):
 
 @pytest.fixture(scope="session")
 def rust(prefix, tmp_path_factory):
-    """Cargo writes into the crate's folder, so this is a copy."""
-    need("cargo", "cc", "pkg-config")
+    """A copy, as Cargo writes into the crate's folder. Debian's Cargo and rustc are the oldest that have to do."""
+    need("cargo", "rustc", "cc", "pkg-config")
     own = tmp_path_factory.mktemp("rust")
     shutil.copytree(TOP / "bindings" / "rust", own / "bindings" / "rust", ignore=shutil.ignore_patterns("target"))
-    for name in "testdata", "capi":
-        (own / name).symlink_to(TOP / name)
+    (own / "testdata").symlink_to(TOP / "testdata")
     settings = {"CARGO_HOME": f"{own}/cargo", "CARGO_TARGET_DIR": f"{own}/target", "CARGO_NET_OFFLINE": "true"}
-    return Package(own / "bindings" / "rust", settings | {"RUSTFLAGS": "", "RUSTDOCFLAGS": ""} | found(prefix))
+    settings |= {"PATH": f"/usr/bin:{os.environ['PATH']}", "RUSTFLAGS": "", "RUSTDOCFLAGS": ""}
+    return Package(own / "bindings" / "rust", settings | found(prefix))
 
 
 @pytest.fixture(scope="session")

@@ -34,7 +34,6 @@ class Changed:
     base: str
     content: bytes
     steps: tuple[str, ...]
-    is_meant: bool = False  # whether a loader may see one of the steps
 
     def __str__(self) -> str:
         return f"{self.number} ({self.base}: {'; '.join(self.steps) or 'as it is'})"
@@ -44,7 +43,6 @@ def weighted(changes: Sequence[tuple[int, Change]]) -> list[Change]:
     return [change for weight, change in changes for _ in range(weight)]
 
 
-WAYS = (0x01, 0x10, 0x80, 0xFF)  # bits of a byte that are changed
 MEANT, KEPT = weighted((*elf_changes.CHANGES, *btf_changes.CHANGES)), weighted(same_changes.CHANGES)
 
 
@@ -81,24 +79,10 @@ def apply(file: ElfFile, random: Random, choices: Sequence[Change], count: int) 
     return steps
 
 
-def byte_changed(bases: Sequence[Base], number: int) -> Changed:
-    """Each byte of each base, changed in several ways."""
-    place, way = divmod(number - len(bases), len(WAYS))
-    for base in bases:
-        if place < len(base.content):
-            data = bytearray(base.content)
-            data[place] ^= WAYS[way]
-            return Changed(number, base.name, bytes(data), (f"byte {place} is {data[place]}",), True)
-        place -= len(base.content)
-    raise IndexError(number)
-
-
 def changed(bases: Sequence[Base], seed: str, number: int) -> Changed:
-    """The change with a number; the first ones are the bases themselves. Without a seed it is one of a single byte."""
+    """The change with a number; the first ones are the bases themselves."""
     if number < len(bases):
         return Changed(number, bases[number].name, bases[number].content, ())
-    if not seed:
-        return byte_changed(bases, number)
     random = Random(f"{seed}/{number}")
     base = random.choice(bases)
     file = ElfFile.read(base.content)
@@ -110,4 +94,4 @@ def changed(bases: Sequence[Base], seed: str, number: int) -> Changed:
         return Changed(number, base.name, base.content, ("nothing",))
     if random.random() < 0.15:
         meant.append(change_bytes(data, random))
-    return Changed(number, base.name, bytes(data), (*meant, *kept), bool(meant))
+    return Changed(number, base.name, bytes(data), (*meant, *kept))

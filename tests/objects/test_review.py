@@ -27,6 +27,7 @@ from tests.reference import object_reference
 
 COMPILED = TOP / "bindings" / "python" / "tests" / "compiled"
 ORDERS = ("little", "big")
+COUNT, SEED = int(os.environ.get("CHANGED_OBJECTS", "2000")), os.environ.get("CHANGED_SEED", "1")
 FEWEST = 2  # texts of ten changed objects: fewer would test little
 pytestmark = pytest.mark.needs("elftools")
 
@@ -48,7 +49,7 @@ class Review:
         """The object file, or None if it is refused."""
         try:
             return self.module("accepted").Accepted(data)
-        except self.package.Fault:
+        except self.package.FaultError:
             return None
 
     def lines(self, object: Any, title: str) -> list[str]:
@@ -78,15 +79,14 @@ def bases(tmp_path_factory: pytest.TempPathFactory) -> list[Base]:
 
 
 @pytest.mark.objects
-def test_changed_objects(bases: list[Base], review: Review, request: pytest.FixtureRequest) -> None:
+def test_changed_objects(bases: list[Base], review: Review) -> None:
     """Two texts are equal exactly if the canonical files are."""
-    count, seed = (request.config.getoption(it) for it in ("count", "seed"))
     canonical: dict[str, bytes] = {}
-    for number in range(count):
-        object = review.accepted(changed(bases, seed, number).content)
+    for number in range(COUNT):
+        object = review.accepted(changed(bases, SEED, number).content)
         if object:
             assert canonical.setdefault(review.text(object), object.canonical) == object.canonical, number
-    assert len(set(canonical.values())) == len(canonical) >= count * FEWEST // 10
+    assert len(set(canonical.values())) == len(canonical) >= COUNT * FEWEST // 10
 
 
 @pytest.mark.objects
@@ -252,6 +252,12 @@ def test_output_that_fails(run: Run) -> None:
     with open("/dev/full", "wb") as full:
         done = run("show", FLOWS, capture_output=False, stdout=full, stderr=subprocess.PIPE)
     assert (done.returncode, done.stderr) == (2, b"bpfcanon-review: standard output: No space left on device\n")
+
+
+def test_no_library(run: Run) -> None:
+    done = run("list", FLOWS, env=os.environ | {"BPFCANON_LIBRARY": "/none", "PYTHONPATH": f"{TOP}/bindings/python"})
+    assert (done.returncode, done.stdout, done.stderr.count(b"\n")) == (2, b"", 1)
+    assert done.stderr.startswith(b"bpfcanon-review: ") and b"BPFCANON_LIBRARY can name its file" in done.stderr
 
 
 def test_limits(review: Review, monkeypatch: pytest.MonkeyPatch) -> None:

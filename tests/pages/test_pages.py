@@ -124,23 +124,23 @@ def fields_of(text, name):
     return re.findall(r"(\w+) (\w+);", body[1]) if body else []
 
 
-# How much room is always enough for a call, as the header and the manual page say it. Worked out by hand: a line such as "jsgt32 r10,
+# Which capacity is always enough for a call, as the header and the manual page say it. Worked out by hand: a line such as "jsgt32 r10,
 # -2147483648, -32768" has 32 characters for 8 bytes, "exit" makes 8 bytes of 4 characters, a wide load has 16, a type at least 12 and a
 # parameter 8.
-ROOMS = [
-    ("btf_canon", "Room of `len` bytes is always enough", "Room of len bytes is always enough"),
-    ("insn_canon", "Sets `written`, which is `len`", "Room of len bytes is always enough"),
-    ("insn_show", "Room of 4 * `len` bytes is always enough", "Room of four times len is always enough for a listing"),
-    ("insn_read", "Room of 2 * `len` bytes is always enough", "Room of twice len is always enough"),
+CAPACITIES = [
+    ("btf_canon", "A capacity of `len` bytes is always enough", "A capacity of len bytes is always enough"),
+    ("insn_canon", "Sets `written`, which is `len`", "A capacity of len bytes is always enough"),
+    ("insn_show", "A capacity of 4 * `len` bytes is always enough", "A capacity of four times len is always enough for a listing"),
+    ("insn_read", "A capacity of 2 * `len` bytes is always enough", "A capacity of twice len is always enough"),
     ("insn_front", "fewer than 16 bytes remain after `read`", "fewer than 16 bytes remain after read"),
-    ("insn_decode", "Room of `len` / 8 records is always enough", "Room of len / 8 instructions"),
-    ("insn_encode", "Room of 16 * `count` bytes is always enough", "Room of 16 bytes for each record is always enough"),
-    ("btf_decode", "Room of `len` / 12 types and `len` / 8 items is always enough", "len / 12 types and len / 8 items is always enough"),
+    ("insn_decode", "A capacity of `len` / 8 records is always enough", "A capacity of len / 8 instructions"),
+    ("insn_encode", "A capacity of 16 * `count` bytes is always enough", "A capacity of 16 bytes for each record is always enough"),
+    ("btf_decode", "A capacity of `len` / 12 types and `len` / 8 items is always enough", "len / 12 types and len / 8 items is always enough"),
 ]
 
 
-@pytest.mark.parametrize("call, of_header, of_page", ROOMS, ids=[row[0] for row in ROOMS])
-def test_room(call, of_header, of_page):
+@pytest.mark.parametrize("call, of_header, of_page", CAPACITIES, ids=[row[0] for row in CAPACITIES])
+def test_capacity(call, of_header, of_page):
     before = HEADER[: HEADER.index(f"\nbpfcanon_answer bpfcanon_{call}(")]
     comment = re.sub(r"\s*\n \* ?", " ", before[before.rindex("/*") :])
     assert of_header in comment and of_page in plain((TOP / "man" / "bpfcanon.3").read_text())

@@ -17,7 +17,7 @@ from tests.sources.tables import cells
 PAGE, RECORD = TOP / "docs" / "TRUST.md", TOP / "out" / "PROVED.txt"
 TEXT = PAGE.read_text()
 # Where the page shows a contract or definitions from.
-SOURCES = {"rattle": "bpf_canon/src/insn/canon.rt", "antt": "bpf_insn/specs/Spelling.antt bpf_canon/specs/insn/Canonical.antt"}
+SOURCES = {"rattle": "bpf_canon/src/insn/canon.rt", "antt": "bpf_insn/specs/Encoding.antt bpf_canon/specs/insn/Canonical.antt"}
 BLOCK = re.compile(r"^```(\w+)\n(.*?)^```$", re.MULTILINE | re.DOTALL)
 CODE = re.compile(r"`([^`]+)`")
 

@@ -4,19 +4,7 @@ import pytest
 
 from tests import long_listings
 from tests.command import Ran
-from tests.samples import (
-    EXIT,
-    INT,
-    INT_BIG,
-    INT_TEXT,
-    MOV,
-    MOV_BIG,
-    NO_TYPES,
-    SOURCE_BESIDE_IMMEDIATE,
-    THREE_INSTRUCTIONS,
-    THREE_LINES,
-    WIDE,
-)
+from tests.samples import INT, INT_BIG, INT_TEXT, MOV, MOV_BIG, NO_TYPES, THREE_INSTRUCTIONS, THREE_LINES
 
 # A line of each command, and of those that write in another order; with its input and its output.
 LINES = [
@@ -94,21 +82,3 @@ def test_writes_of_pieces(paced, name):
         assert paced.run(line, file, most, write=number) == Ran(3, text[:taken], b"write failed\n"), f"write {number} of {most}"
     for most in 1, 1_000, 4_096:
         assert paced.run(line, file, most) == Ran(0, text, b""), f"by {most} bytes"
-
-
-def test_faults(paced):
-    """The entire input is checked before the first piece, and a fault in complete slots is reported before a read that fails."""
-    file, _ = long_listings.nameless(0, 900)
-    unknown_type = file[:-5] + b"\0\x10\0\0\0"
-    for line, given, message in [
-        ("insn-show", EXIT * 3_000 + SOURCE_BESIDE_IMMEDIATE, b"fault 24001 Src\n"),
-        ("btf-show", unknown_type, b"fault 10820 Reference\n"),
-    ]:
-        assert paced.run(line, given, 4_096) == Ran(1, b"", message), f"{line}, a fault after a piece"
-    faulty = EXIT + SOURCE_BESIDE_IMMEDIATE
-    for given, most, right in [
-        (faulty, 16, Ran(1, EXIT, b"fault 9 Src\n")),
-        (faulty, 8, Ran(3, EXIT, b"read failed\n")),
-        (WIDE[:8], 8, Ran(3, b"", b"read failed\n")),
-    ]:
-        assert paced.run("insn-canon", given, most, read=2) == right, f"insn-canon by {most} bytes"

@@ -77,20 +77,3 @@ def test_limit(run, row):
     assert len(given) == (INSN_LIMIT if line.startswith("insn") else BTF_LIMIT) * (2 if "split" in line else 1)
     assert run(line, given) == Ran(0, output())
     assert run(line, given + b"\n") == refused("too long", output_of_more())
-
-
-def test_name_used_often(run):
-    """Half a million values have the same name of a million bytes, next to a string that isn't UTF-8."""
-    enum = struct.pack("<III", 0, 0x0600_FFFF, 4) + struct.pack("<II", 1, 0) * 0xFFFF
-    strings = b"\0" + b"a" * 1_000_000 + b"\0"
-    file = btf_header(24, 8 * len(enum), len(strings) + 2) + 8 * enum + strings + b"\xff\0"
-    assert run("btf-check", file) == Ran(0, b"ok 8 types\n")
-    assert run("btf-canon", file) == Ran(0, btf_header(24, 8 * len(enum), len(strings)) + 8 * enum + strings)
-
-
-def test_numbered_lines(run):
-    """A million lines, each with another number."""
-    file = b"".join(struct.pack("<BBhi", 0xB7, 9, 0, number) for number in range(1_000_000))
-    text = b"".join(b"mov r9, %d\n" % number for number in range(1_000_000))
-    assert run("insn-show", file) == Ran(0, text)
-    assert run("insn-read", text) == Ran(0, file)

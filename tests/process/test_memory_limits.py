@@ -10,7 +10,8 @@ import sys
 import termios
 
 from tests.command import Ran
-from tests.process.test_streams import INSTRUCTION_LIMIT, Running
+from tests.process.test_limits import INSTRUCTIONS
+from tests.process.test_streams import Running
 from tests.samples import EXIT, btf, floats
 
 MEGABYTE = 1 << 20
@@ -38,7 +39,7 @@ def run_growing(program, more, line, given):
 
 def test_streams_in_little_memory(program):
     """insn-canon doesn't keep its input, so it needs no more for the largest than for the first piece."""
-    given = EXIT * (INSTRUCTION_LIMIT // len(EXIT))
+    given = EXIT * INSTRUCTIONS
     assert run_growing(program, 256 << 10, "insn-canon", given) == Ran(0, given, b"")
 
 

@@ -13,12 +13,11 @@ import threading
 import pytest
 
 from tests.command import SECONDS, Ran
-from tests.samples import CALL_BY_REGISTER, EXIT, INT_BIG, LOOSE_INT, MOV, MOV_BIG, SOURCE_BESIDE_IMMEDIATE, btf, floats
+from tests.samples import CALL_BY_REGISTER, EXIT, INT_BIG, LOOSE_INT, MOV, MOV_BIG, SOURCE_BESIDE_IMMEDIATE, btf
 
 READ_FAILED = Ran(3, b"", b"read failed\n")
 WRITE_FAILED = Ran(3, b"", b"write failed\n")
 TOO_LONG = Ran(1, b"", b"too long\n")
-INSTRUCTION_LIMIT = 67_108_864
 
 # A line of each command that writes something, with its input.
 EACH_COMMAND = [
@@ -144,28 +143,6 @@ class Running:
         return Ran(self.process.returncode, output, self.process.stderr.read())
 
 
-# More output than a pipe holds, even at the default 65,536 bytes.
-EXITS, FLOATS = EXIT * 100_000, floats([1] * 20_000)
-LARGE = {
-    "insn-canon": (EXITS, EXITS),
-    "insn-show": (EXITS, b"exit\n" * 100_000),
-    "insn-read": (b"exit\n" * 100_000, EXITS),
-    "btf-canon": (btf("big", FLOATS, b"\0d\0"), btf("little", FLOATS, b"\0d\0")),
-    "btf-show": (btf("little", FLOATS, b"\0d\0"), b"".join(b'[%d] float "d" size=8\n' % number for number in range(1, 20_001))),
-}
-
-
-@pytest.mark.parametrize("count", [1, 4_096, 150_000])
-@pytest.mark.parametrize("line", LARGE)
-def test_readers_that_go_away(program, line, count):
-    given, output = LARGE[line]
-    with Running(program, line) as running:
-        running.feed([given])
-        read = running.read(count)
-        running.process.stdout.close()
-        assert running.end(read) == Ran(3, output[:count], b"write failed\n")
-
-
 def endless(piece):
     while True:
         yield piece * 10_000
@@ -184,14 +161,6 @@ def test_cut_amid_an_endless_input(program):
 def test_endless_zeros(program, line):
     with open("/dev/zero", "rb") as zeros:
         assert program.run(line, stdin=zeros) == TOO_LONG
-
-
-def test_endless_exits(program):
-    with Running(program, "insn-canon") as running:
-        running.feed(endless(EXIT))
-        read = running.read(INSTRUCTION_LIMIT + 1)
-        assert running.end(read) == Ran(1, EXIT * (INSTRUCTION_LIMIT // len(EXIT)), b"too long\n")
-        assert running.cut.wait(SECONDS)
 
 
 @pytest.mark.parametrize("line, given, output", [("", EXIT, EXIT), ("insn-canon --order big", MOV_BIG, MOV)])

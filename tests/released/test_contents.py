@@ -33,7 +33,7 @@ FILES |= {
 }
 # The pages for users, and the programs that they compile.
 FILES |= {f"share/doc/bpfcanon/{name}.md": TOP / f"{name}.md" for name in ("README", "CHANGELOG", "SECURITY")}
-PAGES = ["API", "COMPARED", "FAULTS", "FORMATS", "GUIDE", "OBJECTS", "SCOPE"]
+PAGES = ["API", "COMPARED", "FAULTS", "FORMATS", "GUIDE", "NAMES", "OBJECTS", "SCOPE"]
 FILES |= {f"share/doc/bpfcanon/docs/{page}.md": TOP / "docs" / f"{page}.md" for page in PAGES}
 FILES |= {f"share/doc/bpfcanon/testdata/{name}.c": TOP / "testdata" / f"{name}.c" for name in ("flow_table", "packet_filter")}
 if (TOP / "LICENSE").exists():

@@ -13,14 +13,13 @@ import pytest
 from tests import TOP
 from tests.needs import need
 from tests.released.conftest import SUITES
-from tests.released.use import CANON_C, CANONICAL_OBJECT, COMMANDS, OBJECT, block_of, lines_of
+from tests.released.use import CANON_C, CANONICAL_OBJECT, COMMANDS, OBJECT, PYTHON, block_of, lines_of
 
 HOME = "home/some user"
 ENVIRONMENT = {"PATH": "/usr/local/sbin:/usr/local/bin:/usr/sbin:/usr/bin:/sbin:/bin", "LC_ALL": "C.UTF-8", "HOME": f"/{HOME}", "PIP_NO_INDEX": "1"}
 ROOT, USER, ANYBODY = 0, 1000, 65534
 PACKAGES = "bpfcanon libbpfcanon0 libbpfcanon-dev python3-bpfcanon"
 LINK = "flags=$(pkg-config --cflags --libs bpfcanon); eval cc canon.c $flags -o shared; eval cc -static canon.c $flags -o static"
-SCRIPT = shlex.quote("import sys; from bpfcanon.objects import key; print(key(sys.stdin.buffer.read()).hex(), end='  -\\n')")
 
 
 class Chroot:
@@ -53,7 +52,7 @@ class Chroot:
         """The package gives the right key, and its command has the version of the package and that of the library."""
         said = self.run(f"{folder}bpfcanon-review --version").decode()
         right = COMMANDS["bpfcanon-object"][2]
-        return self.run(f"{folder}{python} -c {SCRIPT}", given=OBJECT) == right and said == f"bpfcanon-review {self.version}, library {self.version}\n"
+        return self.run(f"{folder}{python} -c {shlex.quote(PYTHON)}", given=OBJECT) == right and said == f"bpfcanon-review {self.version}, library {self.version}\n"
 
     def files(self):
         """What is there, with modes, owners and targets, but what Python has compiled."""

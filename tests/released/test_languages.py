@@ -1,4 +1,4 @@
-"""The Rust crate and the Go module, each by the lines of its README, in a folder whose path has a blank."""
+"""The Rust crate, the Go module and the wheel, each by the lines of a README, in a folder whose path has a blank."""
 
 import shutil
 
@@ -6,7 +6,7 @@ import pytest
 
 from tests import TOP
 from tests.needs import need
-from tests.released.use import CANONICAL, TYPES, block_of, output
+from tests.released.use import CANONICAL, COMMANDS, OBJECT, PYTHON, TYPES, block_of, lines_of, output
 
 PACKAGE = '[package]\nname = "canon"\nversion = "0.1.0"\nedition = "2021"\n'
 RUST = """use std::io::{stdin, stdout, Read, Write};
@@ -20,7 +20,7 @@ GO = """package main
 import ("bpfcanon"; "io"; "os")
 func main() {
 	types, _ := io.ReadAll(os.Stdin)
-	canonical, _ := bpfcanon.BTFCanon(bpfcanon.Little, types)
+	canonical, _ := bpfcanon.CanonBTF(bpfcanon.Little, types)
 	os.Stdout.Write(canonical)
 }
 """
@@ -63,3 +63,13 @@ def test_go_module(project):
     need("qemu-aarch64")
     output("go", "build", "-o", "arm64", ".", cwd=project, env=own | {"CC": "aarch64-linux-gnu-gcc", "GOARCH": "arm64"})
     assert output("qemu-aarch64", "-L", "/usr/aarch64-linux-gnu", project / "arm64", given=TYPES) == CANONICAL
+
+
+def test_wheel(project):
+    """In a venv, without any other package: test_debian.py has it only where chroots can be made."""
+    need("ensurepip")
+    own = {"PIP_NO_INDEX": "1", "BPFCANON_LIBRARY": "", "PYTHONPATH": ""}
+    output("sh", "-euc", "".join(lines_of(project / "README", "*.whl")), cwd=project, env=own)
+    folder = project / "bpfcanon-venv" / "bin"
+    assert output(folder / "python", "-c", PYTHON, given=OBJECT, env=own) == COMMANDS["bpfcanon-object"][2]
+    assert b", library " in output(folder / "bpfcanon-review", "--version", env=own)

@@ -24,6 +24,8 @@ COMMANDS = {
     "bpfcanon": (["insn-canon", "--order", "big"], DATA / "packet_filter.big.bin", (DATA / "packet_filter.little.bin").read_bytes()),
     "bpfcanon-object": (["key", "-"], OBJECT, f"{KEY}  -\n".encode()),
 }
+# What prints the key of an object by the package for Python.
+PYTHON = "import sys; from bpfcanon.objects import key; print(key(sys.stdin.buffer.read()).hex(), end='  -\\n')"
 
 
 def output(*words, given=None, env=None, **how):

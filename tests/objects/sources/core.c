@@ -51,11 +51,11 @@ int entered(unsigned long long *arguments)
 SEC("kprobe/schedule")
 int probed(void *context)
 {
-	char comm[16];
+	char name[16];
 	struct task_struct *task = (void *)bpf_get_current_task();
 
-	BPF_CORE_READ_STR_INTO(&comm, task, comm);
-	return comm[0];
+	BPF_CORE_READ_STR_INTO(&name, task, comm);
+	return name[0];
 }
 
 char _license[] SEC("license") = "GPL";

@@ -1,0 +1,123 @@
+/* Types that are encoded from records: by hand, as they were decoded, and records that no BTF has. usage: encode TESTDATA */
+#include "checks.h"
+
+/* INT "int" of 32 bits, signed; STRUCT "s" of 4 bytes with the bit-field "int" of 3 bits at 5; canonical, with its names at 65 and 69. */
+static const uint8_t file[] =
+	"\x9f\xeb\1\0\x18\0\0\0" "\0\0\0\0\x28\0\0\0\x28\0\0\0\7\0\0\0" "\1\0\0\0\0\0\0\1\4\0\0\0\x20\0\0\1"
+	"\5\0\0\0\1\0\0\x84\4\0\0\0" "\1\0\0\0\1\0\0\0\5\0\0\3" "\0int\0s";
+static const char strings[] = "s\0int";
+#define STRINGS strings, sizeof strings
+
+struct records {
+	bpfcanon_btf_type types[2];
+	bpfcanon_btf_item items[1];
+};
+static const struct records right = {
+	{ { .kind = BPFCANON_BTF_KIND_INT, .encoding = BPFCANON_BTF_ENCODING_SIGNED, .bits = 32, .name = 2, .name_len = 3, .size = 4 },
+	  { .kind = BPFCANON_BTF_KIND_STRUCT, .items = 1, .name = 0, .name_len = 1, .size = 4 } },
+	{ { .name = 2, .name_len = 3, .target = 1, .bit_offset = 5, .width = 3, .kind = BPFCANON_BTF_ITEM_KIND_MEMBER } },
+};
+
+static bpfcanon_answer encode(const struct records *given, uint8_t *out, size_t capacity)
+{
+	return bpfcanon_btf_encode(BPFCANON_ORDER_LITTLE, given->types, 2, given->items, 1, STRINGS, out, capacity);
+}
+
+static void types_are_encoded(void)
+{
+	uint8_t out[sizeof file + 1];
+
+	memset(out, 0xaa, sizeof out);
+	CHECK(is(encode(&right, out, sizeof file - 1), needs(sizeof file)));
+	CHECK(is(encode(&right, NULL, 0), needs(sizeof file)));
+	CHECK(is_filled(out, out + sizeof out));
+	CHECK(is(encode(&right, out, sizeof out), written(sizeof file)));
+	CHECK(!memcmp(out, file, sizeof file) && is_filled(out + sizeof file, out + sizeof out));
+	CHECK(is(bpfcanon_btf_encode(2, right.types, 2, right.items, 1, STRINGS, out, sizeof out), ended(BPFCANON_STATUS_ORDER)));
+	for (size_t k = 1; k < 8; k++) {
+		const uint8_t *odd = (const uint8_t *)&right + k;
+
+		CHECK(is(bpfcanon_btf_encode(2, (const void *)odd, 1, right.items, 1, STRINGS, out, sizeof out), ended(BPFCANON_STATUS_ALIGNMENT)));
+		CHECK(is(bpfcanon_btf_encode(2, right.types, 1, (const void *)odd, 0, STRINGS, out, sizeof out), ended(BPFCANON_STATUS_ALIGNMENT)));
+	}
+}
+
+/* Each compiled file, to both byte orders: decoded and encoded it is canonical. Its names stay where they are. */
+static void decoded_types_are_encoded(const char *folder)
+{
+	static const char *const names[] = { "flow_table.little.btf", "flow_table.big.btf" };
+
+	for (size_t k = 0; k < COUNT(names); k++) {
+		size_t len;
+		uint8_t *bytes = load(folder, names[k], &len);
+
+		for (uint32_t to = 0; to < 2; to++) {
+			bpfcanon_btf_type *types;
+			bpfcanon_btf_item *items;
+			uint8_t *canonical, *encoded;
+			bpfcanon_answer all = bpfcanon_btf_decode_new(bytes, len, &types, &items), made = bpfcanon_btf_canon_new(to, bytes, len, &canonical);
+
+			CHECK(is(bpfcanon_btf_encode_new(to, types, all.types, items, all.written, (char *)bytes, len, &encoded), made));
+			CHECK(encoded && !memcmp(encoded, canonical, made.written));
+			bpfcanon_free(types);
+			bpfcanon_free(items);
+			bpfcanon_free(canonical);
+			bpfcanon_free(encoded);
+		}
+		free(bytes);
+	}
+}
+
+/* Encodes records in which one field of the type with an index, or of the item, has another value. Nothing is written. */
+#define REFUSED(index, cause, field, value) \
+	do { \
+		struct records given = right; \
+		uint8_t out[sizeof file], *block = out; \
+		memset(out, 0xaa, sizeof out); \
+		given.field = value; \
+		CHECK(is(encode(&given, out, sizeof out), fault(cause, index)) && is_filled(out, out + sizeof out)); \
+		CHECK(is(bpfcanon_btf_encode_new(0, given.types, 2, given.items, 1, STRINGS, &block), fault(cause, index)) && !block); \
+	} while (0)
+
+static void what_no_btf_has_is_refused(void)
+{
+	/* kinds, and fields that a kind doesn't have */
+	REFUSED(0, BPFCANON_BTF_CAUSE_KIND_NUMBER, types[0].kind, 0);
+	REFUSED(1, BPFCANON_BTF_CAUSE_KIND_NUMBER, types[1].kind, 20);
+	REFUSED(0, 0, types[0].target, 1);
+	REFUSED(1, 0, types[1].flag, 1);
+	REFUSED(1, 0, types[1].component, -1);
+	REFUSED(1, 0, items[0].offset, 1);
+	/* items of another kind, and items that run past the array, also if their end has more than 32 bits */
+	REFUSED(1, 0, items[0].kind, BPFCANON_BTF_ITEM_KIND_PARAM);
+	REFUSED(1, 0, items[0].kind, 0);
+	REFUSED(1, BPFCANON_BTF_CAUSE_TAIL_CUT, types[1].items, 2);
+	REFUSED(1, BPFCANON_BTF_CAUSE_TAIL_CUT, types[1].items, 0xffff);
+	REFUSED(1, BPFCANON_BTF_CAUSE_TAIL_CUT, types[1].first, 1);
+	REFUSED(1, BPFCANON_BTF_CAUSE_TAIL_CUT, types[1].first, UINT32_MAX);
+	/* names past the strings, also if their end has more than 32 bits, without a NUL, and with one */
+	REFUSED(0, BPFCANON_BTF_CAUSE_NAME_RANGE, types[0].name, sizeof strings);
+	REFUSED(0, BPFCANON_BTF_CAUSE_NAME_RANGE, types[0].name, UINT32_MAX);
+	REFUSED(0, BPFCANON_BTF_CAUSE_NAME_RANGE, types[0].name_len, UINT32_MAX);
+	REFUSED(0, BPFCANON_BTF_CAUSE_NAME_RANGE, types[0].name_len, 2);
+	REFUSED(0, BPFCANON_BTF_CAUSE_NAME_RANGE, types[0].name_len, 4);
+	REFUSED(1, 0, types[1].name_len, 5);
+	REFUSED(1, BPFCANON_BTF_CAUSE_NAME_RANGE, items[0].name, 3);
+	/* numbers that their fields can't hold, and what BTF refuses */
+	REFUSED(1, 0, items[0].width, 256);
+	REFUSED(1, 0, items[0].bit_offset, 1 << 24);
+	REFUSED(1, BPFCANON_BTF_CAUSE_REFERENCE, items[0].target, 3);
+	REFUSED(1, BPFCANON_BTF_CAUSE_REFERENCE, items[0].target, UINT32_MAX);
+	REFUSED(0, BPFCANON_BTF_CAUSE_INT_WORD, types[0].bits, 33);
+	REFUSED(1, BPFCANON_BTF_CAUSE_MEMBER_PLACE, items[0].bit_offset, 30);
+}
+
+int main(int argc, char **argv)
+{
+	if (argc != 2)
+		return 2;
+	types_are_encoded();
+	decoded_types_are_encoded(argv[1]);
+	what_no_btf_has_is_refused();
+	return end("encode");
+}
