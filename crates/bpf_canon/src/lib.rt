@@ -10,13 +10,13 @@
 //! btf/write/sections.rt       reads the records, and passes each name_off in use, in order, to
 //! btf/strings/used_offsets.rt   which notes it, and numbers the offsets in use
 //! btf/strings/ranked_texts.rt   sorts the longest names from their ends, which ranks them
-//! btf/strings/shared_places.rt  finds the host of a name by its rank, and the place in the table
+//! btf/strings/shared_offsets.rt  finds the host of a name by its rank, and its offset in the table
 //! btf/write/sections.rt       reads the records again, and writes each with its new name_off
 //! btf/write/head_words.rt       the header before them, and the words of a record
 //! ```
 //!
 //! A canonical object file has another string table, in which no names share bytes. Its offsets are
-//! found by `btf/strings/distinct_places.rt`, and its records written by `btf/write/sections.rt`.
+//! found by `btf/strings/distinct_offsets.rt`, and its records written by `btf/write/sections.rt`.
 
 #![tactic(auto)]
 
@@ -31,7 +31,7 @@ pub use bpf_insn::{InsnError, Order, first_fault};
 pub use btf::btf_laws;
 pub use btf::canon::{canon_btf, recode_btf, same_btf};
 pub use btf::run::{BTF_LIMIT, run_btf};
-pub use btf::strings::distinct_places::DistinctPlaces;
+pub use btf::strings::distinct_offsets::DistinctOffsets;
 pub use btf::strings::used_offsets::FirstUses;
 pub use btf::write::head_words::push_header;
 pub use btf::write::sections::{note_names, push_types};

@@ -5,11 +5,11 @@ use Rattle.std.proofs.lemmas.Bool.{ltb-true}
 use Rattle.bpf_elf.specs.declared.fault.ElfCause.TheVariants as cause
 use Rattle.bpf_elf.specs.declared.kinds.Kind.TheVariants.{Relocations}
 use Rattle.bpf_elf.specs.Rules.{each, AllHold}
-use Rattle.bpf_elf.specs.Numbers.{count, place, type, info}
+use Rattle.bpf_elf.specs.Numbers.{count, header_offset, type, info}
 use Rattle.bpf_elf.specs.Kinds.{is_kind, SHT_REL}
 use Rattle.bpf_elf.specs.Sections.{kind, table_rules, section_rules, target_rules, is_target}
 use Rattle.bpf_elf.specs.Symbols.{symbol_count, is_kept_symbol, symbol_table_rules, symbol_rules}
-use Rattle.bpf_elf.specs.Relocations.{relocation_count, relocation_rules, relocation_place, relocation_table_rules, form_rules, kept_table_rules, is_relocation_symbol, r_symbol}
+use Rattle.bpf_elf.specs.Relocations.{relocation_count, relocation_rules, relocation_offset, relocation_table_rules, form_rules, kept_table_rules, is_relocation_symbol, r_symbol}
 use Rattle.bpf_elf.specs.ElfRules.{IsElf, head_rules, all_section_rules, all_symbol_rules}
 use Rattle.bpf_elf.proofs.RuleLemmas.{first_hold, rest_hold, each_holds, head_holds}
 use Rattle.bpf_elf.proofs.SectionFacts.{relocations_type_at}
@@ -44,7 +44,7 @@ target_is b i h lt is =
     let rules = each_holds (count b) i (target_rules b) lt (targets_hold b h) in
     let rel : (type b i == SHT_REL) ≡ true = subst (λ (t : ℕ). (t == SHT_REL) ≡ true) (sym (relocations_type_at b i is)) refl in
     one_of_two (type b i == SHT_REL) (is_target b i (info b i))
-    (head_holds cause.RelocationTarget (place b i + 44) (not (type b i == SHT_REL) || is_target b i (info b i)) [] rules).0 rel
+    (head_holds cause.RelocationTarget (header_offset b i + 44) (not (type b i == SHT_REL) || is_target b i (info b i)) [] rules).0 rel
 
 pub target_there : (b : List ℕ) (i : ℕ) → IsElf b → i < count b → is_kind Relocations (kind b i) ≡ true → info b i < count b
 target_there b i h lt is =
@@ -59,7 +59,7 @@ symbol_is b i k h lt is row =
     let kept : AllHold (kept_table_rules b i) = rw is at table in
     let rows = rest_hold (form_rules b i) (each (relocation_count b i) (relocation_rules b i)) kept in
     let rule = each_holds (relocation_count b i) k (relocation_rules b i) row rows in
-    (head_holds cause.RelocationSymbol (relocation_place b i k + 8) (is_relocation_symbol b (r_symbol b i k)) [] rule).0
+    (head_holds cause.RelocationSymbol (relocation_offset b i k + 8) (is_relocation_symbol b (r_symbol b i k)) [] rule).0
 
 pub symbol_there : (b : List ℕ) (i k : ℕ) → IsElf b → i < count b → is_kind Relocations (kind b i) ≡ true → k < relocation_count b i
     → r_symbol b i k < symbol_count b

@@ -6,7 +6,7 @@ use Rattle.bpf_elf.specs.declared.{header.Header.Header, symbols.SymbolTable.Sym
 use Rattle.bpf_elf.specs.declared.fault.ElfCause.TheVariants as cause
 use Rattle.bpf_elf.specs.Rules.{ElfRule, AllHold, each, rule}
 use Rattle.bpf_elf.specs.Numbers.{count}
-use Rattle.bpf_elf.specs.Symbols.{symbol_count, symbol_rules, symbol_place, symbol_strings, st_name, st_info, st_shndx, st_value, st_size, is_special, is_local, is_data, has_section, is_within}
+use Rattle.bpf_elf.specs.Symbols.{symbol_count, symbol_rules, symbol_offset, symbol_strings, st_name, st_info, st_shndx, st_value, st_size, is_special, is_local, is_data, has_section, is_within}
 use Rattle.bpf_elf.specs.Headers.{HasSection, HasSymbols, HasKeptSymbols}
 use Rattle.bpf_elf.proofs.RuleLemmas.{each_holds, head_holds}
 
@@ -23,16 +23,16 @@ of_section b info section h =
     ]
 
 abbrev place_rules : List ℕ → ℕ → List ElfRule
-place_rules b j = rule cause.SymbolPlace (symbol_place b j + 8) (is_within b (st_shndx b j) (st_value b j) (st_size b j)) ∷ []
+place_rules b j = rule cause.SymbolPlace (symbol_offset b j + 8) (is_within b (st_shndx b j) (st_value b j) (st_size b j)) ∷ []
 
 abbrev later_rules : List ℕ → ℕ → List ElfRule
-later_rules b j = rule cause.SymbolSection (symbol_place b j + 6) (has_section b (st_info b j) (st_shndx b j)) ∷ place_rules b j
+later_rules b j = rule cause.SymbolSection (symbol_offset b j + 6) (has_section b (st_info b j) (st_shndx b j)) ∷ place_rules b j
 
 name_holds : (b : List ℕ) (j : ℕ) → AllHold (symbol_rules b j) → (nat_lt (st_name b j) (length (symbol_strings b)) ≡ true) × AllHold (later_rules b j)
-name_holds b j h = head_holds cause.SymbolName (symbol_place b j) (nat_lt (st_name b j) (length (symbol_strings b))) (later_rules b j) h
+name_holds b j h = head_holds cause.SymbolName (symbol_offset b j) (nat_lt (st_name b j) (length (symbol_strings b))) (later_rules b j) h
 
 section_holds : (b : List ℕ) (j : ℕ) → AllHold (later_rules b j) → has_section b (st_info b j) (st_shndx b j) ≡ true
-section_holds b j h = (head_holds cause.SymbolSection (symbol_place b j + 6) (has_section b (st_info b j) (st_shndx b j)) (place_rules b j) h).0
+section_holds b j h = (head_holds cause.SymbolSection (symbol_offset b j + 6) (has_section b (st_info b j) (st_shndx b j)) (place_rules b j) h).0
 
 pub kept_symbols : (b : List ℕ) (h : Header) (t : SymbolTable) → HasSymbols b h t → AllHold (each (symbol_count b) (symbol_rules b)) → HasKeptSymbols b h t
 kept_symbols b h t table all = record {

@@ -44,36 +44,36 @@ abbrev pub flags_of : List ℕ → ℕ
 flags_of b = word b 48
 
 -- where the header of a section begins: it has 64 bytes
-abbrev pub place : List ℕ → ℕ → ℕ
-place b i = table b + 64 * i
+abbrev pub header_offset : List ℕ → ℕ → ℕ
+header_offset b i = table b + 64 * i
 
 -- sh_name, sh_type, sh_flags, sh_addr, sh_offset, sh_size, sh_link, sh_info, sh_addralign and sh_entsize of a section
 abbrev pub name_off : List ℕ → ℕ → ℕ
-name_off b i = word b (place b i)
+name_off b i = word b (header_offset b i)
 
 abbrev pub type : List ℕ → ℕ → ℕ
-type b i = word b (place b i + 4)
+type b i = word b (header_offset b i + 4)
 
 abbrev pub flags : List ℕ → ℕ → ℕ
-flags b i = long b (place b i + 8)
+flags b i = long b (header_offset b i + 8)
 
 abbrev pub address : List ℕ → ℕ → ℕ
-address b i = long b (place b i + 16)
+address b i = long b (header_offset b i + 16)
 
 abbrev pub offset : List ℕ → ℕ → ℕ
-offset b i = long b (place b i + 24)
+offset b i = long b (header_offset b i + 24)
 
 abbrev pub size : List ℕ → ℕ → ℕ
-size b i = long b (place b i + 32)
+size b i = long b (header_offset b i + 32)
 
 abbrev pub link : List ℕ → ℕ → ℕ
-link b i = word b (place b i + 40)
+link b i = word b (header_offset b i + 40)
 
 abbrev pub info : List ℕ → ℕ → ℕ
-info b i = word b (place b i + 44)
+info b i = word b (header_offset b i + 44)
 
 abbrev pub alignment : List ℕ → ℕ → ℕ
-alignment b i = long b (place b i + 48)
+alignment b i = long b (header_offset b i + 48)
 
 abbrev pub entry_size : List ℕ → ℕ → ℕ
-entry_size b i = long b (place b i + 56)
+entry_size b i = long b (header_offset b i + 56)

@@ -1,4 +1,4 @@
--- Rules of a file: each has a cause, a place, and whether it holds. The first one that doesn't hold is the fault of the file.
+-- Rules of a file: each has a cause, an offset, and whether it holds. The first one that doesn't hold is the fault of the file.
 use Rattle.std.specs.Prelude.{◌≡◌, ℕ, zero, suc, ◌==◌, ◌&&◌, Bool, List, [], ◌∷◌, ◌++◌, Option, Some, None, if◌then◌else◌, Result, MatchResult}
 use Rattle.bpf_elf.specs.declared.fault.{ElfCause.ElfCause, ElfFault.ElfFault}
 
@@ -11,7 +11,7 @@ pub record Rule (C : Type 0) : Type 0 where
 abbrev pub rule : {C : Type 0} → C → ℕ → Bool → Rule C
 rule cause pos holds = record { cause = cause; pos = pos; holds = holds }
 
--- the place of a broken rule
+-- the offset of a broken rule
 pub record Broken (C : Type 0) : Type 0 where
   pub cause : C
   pub pos : ℕ

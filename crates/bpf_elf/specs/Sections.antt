@@ -5,7 +5,7 @@ use Rattle.bpf_elf.specs.declared.kinds.Kind.{Kind}
 use Rattle.bpf_elf.specs.declared.kinds.Kind.TheVariants.{Data, Relocations}
 use Rattle.bpf_elf.specs.declared.fault.ElfCause.TheVariants as cause
 use Rattle.bpf_elf.specs.Rules.{ElfRule, rule, first_of}
-use Rattle.bpf_elf.specs.Numbers.{table, count, names, place, name_off, type, flags, offset, size, info}
+use Rattle.bpf_elf.specs.Numbers.{table, count, names, header_offset, name_off, type, flags, offset, size, info}
 use Rattle.bpf_elf.specs.Names.{is_closed, string_at, is_section_name}
 use Rattle.bpf_elf.specs.Kinds.{SHT_STRTAB, SHT_NOBITS, SHT_REL, begins, kind_of, is_kind, is_single}
 
@@ -55,10 +55,10 @@ table_rules b =
 -- a section is in the file, and has a name and a kind
 abbrev pub section_rules : List ℕ → ℕ → List ElfRule
 section_rules b i =
-    rule cause.SectionCut (place b i + 24) (is_inside b i)
-    ∷ rule cause.SectionName (place b i) (is_section_name (content b (names b)) (name_off b i))
-    ∷ rule cause.SectionKind (place b i + 4) (i == 0 || is_some (kind b i))
-    ∷ rule cause.SectionTwice (place b i + 4) (not (is_single (kind b i) && is_again b i))
+    rule cause.SectionCut (header_offset b i + 24) (is_inside b i)
+    ∷ rule cause.SectionName (header_offset b i) (is_section_name (content b (names b)) (name_off b i))
+    ∷ rule cause.SectionKind (header_offset b i + 4) (i == 0 || is_some (kind b i))
+    ∷ rule cause.SectionTwice (header_offset b i + 4) (not (is_single (kind b i) && is_again b i))
     ∷ []
 
 -- the name of a table of relocations is .rel and that of its section
@@ -72,4 +72,4 @@ is_target b i target =
     && (is_table_name (name b i) (name b target) && (not (is_kind Relocations (kind b i)) || is_kind Data (kind b target)))
 
 abbrev pub target_rules : List ℕ → ℕ → List ElfRule
-target_rules b i = rule cause.RelocationTarget (place b i + 44) (not (type b i == SHT_REL) || is_target b i (info b i)) ∷ []
+target_rules b i = rule cause.RelocationTarget (header_offset b i + 44) (not (type b i == SHT_REL) || is_target b i (info b i)) ∷ []

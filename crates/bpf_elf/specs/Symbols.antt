@@ -3,7 +3,7 @@ use Rattle.std.specs.Prelude.{ℕ, ◌+◌, ◌*◌, ◌/◌, ◌%◌, ◌==◌,
 use Rattle.bpf_elf.specs.declared.kinds.Kind.TheVariants.{Data, Symbols}
 use Rattle.bpf_elf.specs.declared.fault.ElfCause.TheVariants as cause
 use Rattle.bpf_elf.specs.Rules.{ElfRule, rule}
-use Rattle.bpf_elf.specs.Numbers.{half, word, long, count, names, place, offset, size, link, entry_size}
+use Rattle.bpf_elf.specs.Numbers.{half, word, long, count, names, header_offset, offset, size, link, entry_size}
 use Rattle.bpf_elf.specs.Names.{string_at}
 use Rattle.bpf_elf.specs.Kinds.{is_kind}
 use Rattle.bpf_elf.specs.Sections.{content, kind, section_of, is_string_table, is_zero_at}
@@ -34,8 +34,8 @@ symbols b = section_of b Symbols (count b)
 abbrev pub symbol_count : List ℕ → ℕ
 symbol_count b = size b (symbols b) / 24
 
-abbrev pub symbol_place : List ℕ → ℕ → ℕ
-symbol_place b j = offset b (symbols b) + 24 * j
+abbrev pub symbol_offset : List ℕ → ℕ → ℕ
+symbol_offset b j = offset b (symbols b) + 24 * j
 
 -- the bytes with the names of the symbols
 abbrev pub symbol_strings : List ℕ → List ℕ
@@ -47,22 +47,22 @@ has_one_string_table b = names b == link b (symbols b)
 
 -- st_name, st_info, st_other, st_shndx, st_value and st_size
 abbrev pub st_name : List ℕ → ℕ → ℕ
-st_name b j = word b (symbol_place b j)
+st_name b j = word b (symbol_offset b j)
 
 abbrev pub st_info : List ℕ → ℕ → ℕ
-st_info b j = slice_index b (symbol_place b j + 4)
+st_info b j = slice_index b (symbol_offset b j + 4)
 
 abbrev pub st_other : List ℕ → ℕ → ℕ
-st_other b j = slice_index b (symbol_place b j + 5)
+st_other b j = slice_index b (symbol_offset b j + 5)
 
 abbrev pub st_shndx : List ℕ → ℕ → ℕ
-st_shndx b j = half b (symbol_place b j + 6)
+st_shndx b j = half b (symbol_offset b j + 6)
 
 abbrev pub st_value : List ℕ → ℕ → ℕ
-st_value b j = long b (symbol_place b j + 8)
+st_value b j = long b (symbol_offset b j + 8)
 
 abbrev pub st_size : List ℕ → ℕ → ℕ
-st_size b j = long b (symbol_place b j + 16)
+st_size b j = long b (symbol_offset b j + 16)
 
 -- the name of a symbol
 abbrev pub symbol_name : List ℕ → ℕ → List ℕ
@@ -95,15 +95,15 @@ is_within b section value size_of = is_special section || (not (is_data b sectio
 -- the symbols have names, and the first one is zero
 abbrev pub first_symbol_rules : List ℕ → List ElfRule
 first_symbol_rules b =
-    rule cause.SymbolNames (place b (symbols b) + 40) (nat_lt (link b (symbols b)) (count b) && is_string_table b (link b (symbols b)))
+    rule cause.SymbolNames (header_offset b (symbols b) + 40) (nat_lt (link b (symbols b)) (count b) && is_string_table b (link b (symbols b)))
     ∷ rule cause.FirstSymbol (offset b (symbols b)) (is_zero_at b (offset b (symbols b)) 24)
     ∷ []
 
 -- the symbol table is whole
 abbrev pub symbol_form_rules : List ℕ → List ElfRule
 symbol_form_rules b =
-    rule cause.SymbolTableSize (place b (symbols b) + 32) (nat_le 24 (size b (symbols b)) && size b (symbols b) % 24 == 0)
-    ∷ rule cause.SymbolEntrySize (place b (symbols b) + 56) (entry_size b (symbols b) == 24)
+    rule cause.SymbolTableSize (header_offset b (symbols b) + 32) (nat_le 24 (size b (symbols b)) && size b (symbols b) % 24 == 0)
+    ∷ rule cause.SymbolEntrySize (header_offset b (symbols b) + 56) (entry_size b (symbols b) == 24)
     ∷ first_symbol_rules b
 
 -- there is a symbol table
@@ -113,7 +113,7 @@ symbol_table_rules b = rule cause.NoSymbols 40 (nat_lt 0 (symbols b)) ∷ symbol
 -- a symbol has a name and a section, and is inside it
 abbrev pub symbol_rules : List ℕ → ℕ → List ElfRule
 symbol_rules b j =
-    rule cause.SymbolName (symbol_place b j) (nat_lt (st_name b j) (length (symbol_strings b)))
-    ∷ rule cause.SymbolSection (symbol_place b j + 6) (has_section b (st_info b j) (st_shndx b j))
-    ∷ rule cause.SymbolPlace (symbol_place b j + 8) (is_within b (st_shndx b j) (st_value b j) (st_size b j))
+    rule cause.SymbolName (symbol_offset b j) (nat_lt (st_name b j) (length (symbol_strings b)))
+    ∷ rule cause.SymbolSection (symbol_offset b j + 6) (has_section b (st_info b j) (st_shndx b j))
+    ∷ rule cause.SymbolPlace (symbol_offset b j + 8) (is_within b (st_shndx b j) (st_value b j) (st_size b j))
     ∷ []

@@ -3,7 +3,7 @@
 ghost use Rattle.std.specs.Prelude.{◌≡◌, ◌<◌, ◌≤◌, ◌^◌, true, length, MatchResult};
 ghost use Rattle.bpf_elf.specs.Rules.{AllHold, IsFirstFault};
 ghost use Rattle.bpf_elf.specs.Header.{FILE_LIMIT};
-ghost use Rattle.bpf_elf.specs.Numbers.{count, flags_of, link, names, order_of, place};
+ghost use Rattle.bpf_elf.specs.Numbers.{count, flags_of, link, names, order_of, header_offset};
 ghost use Rattle.bpf_elf.specs.Kinds.{is_kind};
 ghost use Rattle.bpf_elf.specs.Names.{is_closed};
 ghost use Rattle.bpf_elf.specs.Sections as sections;
@@ -127,9 +127,9 @@ impl<'a> Elf<'a> {
     }
 
     /// Where the header of a section is, in bytes from the start of the file.
-    pub fn section_place(&self, i: usize) -> u32
+    pub fn header_offset(&self, i: usize) -> u32
         requires { i < count self.now }
-        ensures { result ≡ place self.now i }
+        ensures { result ≡ header_offset self.now i }
     {
         (self.header.table + 64 * i) as u32
     }

@@ -3,7 +3,7 @@ use Rattle.std.specs.Prelude.{ℕ, List, codes}
 use Rattle.bpf_insn.specs.declared.fault.SlotCause.{SlotCause}
 use Rattle.bpf_insn.specs.declared.fault.SlotCause.TheVariants as cause
 
--- the number of each cause: the place of its field in the order of checking, after Truncated
+-- the number of each cause: the position of its field in the order of checking, after Truncated
 abbrev pub slot_cause_number : SlotCause → ℕ
 slot_cause_number cause.Truncated = 1
 slot_cause_number cause.Opcode = 2

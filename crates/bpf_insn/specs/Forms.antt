@@ -1,7 +1,7 @@
 -- Forms: what an opcode determines without the other fields, and which values each form allows in the fields after it.
 use Rattle.std.specs.Prelude.{◌≡◌, ◌≢◌, ◌==◌, List, length, slice_range, ℕ, ◌/◌, ◌%◌, ◌<◌, ◌≤◌, ℤ, pos, Option, Some, None, if◌then◌else◌, ◌⊎◌, option_and_then}
 use Rattle.bpf_words.specs.{declared.Order.Order, Words.word32, Slots.Fields, Slots.fields}
-use Rattle.bpf_insn.specs.{Encoding.second_slot, Faults.place, declared.insn.WideOf.WideOf}
+use Rattle.bpf_insn.specs.{Encoding.second_slot, Faults.field_offset, declared.insn.WideOf.WideOf}
 use Rattle.bpf_insn.specs.Table.{code_opcode, mode_opcode, alu_class, alu_code, branch_class, branch_code, size_number, small_size_number, atomic_size, swap_opcode, swap_bits, atomic_number, IsReg, IsImm, IsInsn, IsOperand, fields_of, next_imm_of, source_bit, immediate, IsWideOf, wide_source, wide_imm, wide_next_imm}
 use Rattle.bpf_insn.specs.Table as table
 use Rattle.bpf_insn.specs.declared.insn.{Insn.Insn, Size.Size, Operand.Operand, Width.Width, Width.TheVariants.W32, Width.TheVariants.W64}
@@ -304,4 +304,4 @@ IsWideInsn order slot rest i =
 -- the offset of a fault in the second slot, in bytes from the start of the first slot
 abbrev pub wide_place : SlotCause → ℕ
 wide_place Truncated = 8
-wide_place cause = place cause
+wide_place cause = field_offset cause

@@ -10,7 +10,7 @@ use Rattle.bpf_elf.specs.Names.{NAME_LIMIT}
 use Rattle.bpf_elf.specs.Kinds.{kind_of, is_kind}
 use Rattle.bpf_elf.specs.Sections.{file_size, content, name, kind, is_table_name}
 use Rattle.bpf_elf.specs.Symbols.{symbol_count, is_kept_symbol}
-use Rattle.bpf_elf.specs.Relocations.{relocation_count, r_symbol, relocation_place}
+use Rattle.bpf_elf.specs.Relocations.{relocation_count, r_symbol, relocation_offset}
 use Rattle.bpf_elf.specs.ElfRules.{IsElf}
 use Rattle.bpf_elf.proofs.{KeptFacts.symbol_is, KindLemmas.none_is, KindLemmas.true_false}
 use Rattle.bpf_object.specs.Objects.{KeptRelocation, KeptSection, ObjectTypes}
@@ -84,7 +84,7 @@ module _ (b : List ℕ) (bytes : IsBytes b) (elf : IsElf b) (t : Option ObjectTy
   valid_row i k lt is below =
       let parts = and_parts (nat_lt (r_symbol b i k) (symbol_count b)) (is_kept_symbol b (r_symbol b i k)) (symbol_is b i k elf lt is below) in
       record {
-        offset = long_below b bytes (relocation_place b i k);
+        offset = long_below b bytes (relocation_offset b i k);
         type = omega arith;
         symbol = omega (arith, symbol_count_is, number_less (is_kept_symbol b) (r_symbol b i k) (symbol_count b) (ltb-true _ _ parts.0) parts.1);
       }
@@ -120,7 +120,7 @@ module _ (b : List ℕ) (bytes : IsBytes b) (elf : IsElf b) (t : Option ObjectTy
   valid_section : (i : ℕ) → i < number.count b → is_kept_section b i ≡ true → IsValidSection (object_of b t) (kept_section b i)
   valid_section i lt is =
       let named = (section_facts b elf i lt).named in
-      let p = number.place b i in
+      let p = number.header_offset b i in
       record {
         name = string_without_nul (content b (number.names b)) (number.name_off b i);
         name_short = leb-true _ _ (and_parts (nat_lt (number.name_off b i) (length (content b (number.names b)))) (nat_le (length (name b i)) NAME_LIMIT) named).1;

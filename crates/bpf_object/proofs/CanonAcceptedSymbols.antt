@@ -9,7 +9,7 @@ use Rattle.bpf_elf.specs.Numbers.{order_of}
 use Rattle.bpf_elf.specs.Names.{string_at}
 use Rattle.bpf_elf.specs.Kinds.{is_kind}
 use Rattle.bpf_elf.specs.Sections.{kind}
-use Rattle.bpf_elf.specs.Symbols.{symbols, symbol_count, symbol_place, symbol_strings, symbol_name, st_name, st_info, st_other, st_shndx, st_value, st_size, SHN_ABS, is_special, is_local, is_file, is_data, is_file_name, is_kept, is_kept_symbol}
+use Rattle.bpf_elf.specs.Symbols.{symbols, symbol_count, symbol_offset, symbol_strings, symbol_name, st_name, st_info, st_other, st_shndx, st_value, st_size, SHN_ABS, is_special, is_local, is_file, is_data, is_file_name, is_kept, is_kept_symbol}
 use Rattle.bpf_elf.specs.ElfRules.{IsElf}
 use Rattle.bpf_elf.proofs.KindLemmas.{true_false}
 use Rattle.bpf_object.specs.Objects.{KeptSection, ObjectTypes, Object}
@@ -25,28 +25,28 @@ use Rattle.bpf_object.proofs.CanonAccepted.{data_there, section_numbered, symbol
 -- ---- the first symbol
 
 module _ (b : List ℕ) (t : IsSymbolTable b) where
-  zeros : AreZero b (symbol_place b 0) 24
+  zeros : AreZero b (symbol_offset b 0) 24
   zeros i from lt = zero_bytes b (number.offset b (symbols b)) 24 t.first i (omega (arith, from)) (omega (arith, lt))
 
   first_name : symbol_name b 0 ≡ []
   first_name =
-      ap (λ (k : ℕ). string_at (symbol_strings b) k) (word_zero (order_of b) b (symbol_place b 0) (λ i from lt. zeros i from (omega (arith, lt))))
+      ap (λ (k : ℕ). string_at (symbol_strings b) k) (word_zero (order_of b) b (symbol_offset b 0) (λ i from lt. zeros i from (omega (arith, lt))))
       ∙ first_is_empty (symbol_strings b) t.strings
 
   first_info : st_info b 0 ≡ 0
-  first_info = zeros (symbol_place b 0 + 4) (omega arith) (omega arith)
+  first_info = zeros (symbol_offset b 0 + 4) (omega arith) (omega arith)
 
   first_section : st_shndx b 0 ≡ 0
-  first_section = half_zero (order_of b) b (symbol_place b 0 + 6) (λ i from lt. zeros i (omega (arith, from)) (omega (arith, lt)))
+  first_section = half_zero (order_of b) b (symbol_offset b 0 + 6) (λ i from lt. zeros i (omega (arith, from)) (omega (arith, lt)))
 
   first_other : st_other b 0 ≡ 0
-  first_other = zeros (symbol_place b 0 + 5) (omega arith) (omega arith)
+  first_other = zeros (symbol_offset b 0 + 5) (omega arith) (omega arith)
 
   first_value : st_value b 0 ≡ 0
-  first_value = long_zero (order_of b) b (symbol_place b 0 + 8) (λ i from lt. zeros i (omega (arith, from)) (omega (arith, lt)))
+  first_value = long_zero (order_of b) b (symbol_offset b 0 + 8) (λ i from lt. zeros i (omega (arith, from)) (omega (arith, lt)))
 
   first_size : st_size b 0 ≡ 0
-  first_size = long_zero (order_of b) b (symbol_place b 0 + 16) (λ i from lt. zeros i (omega (arith, from)) (omega (arith, lt)))
+  first_size = long_zero (order_of b) b (symbol_offset b 0 + 16) (λ i from lt. zeros i (omega (arith, from)) (omega (arith, lt)))
 
   first_is : kept_symbol b 0 ≡ no_symbol
   first_is =
@@ -76,7 +76,7 @@ record IsIndexOf (x : Object) (section info value size : ℕ) : Type 0 where
 module _ (b : List ℕ) (bytes : IsBytes b) (elf : IsElf b) (t : Option ObjectTypes) where
   special_index : (j : ℕ) → is_special (st_shndx b j) ≡ true → is_file_name (st_info b j) (st_shndx b j) ≡ false
       → IsIndexOf (object_of b t) (st_shndx b j) (st_info b j) (st_value b j) (st_size b j)
-  special_index j special other = record { fits = half_below b bytes (symbol_place b j + 6); place = inl special; not_file = other }
+  special_index j special other = record { fits = half_below b bytes (symbol_offset b j + 6); place = inl special; not_file = other }
 
   placed_index : (j : ℕ) → st_shndx b j < number.count b → is_kind Data (kind b (st_shndx b j)) ≡ true → st_value b j + st_size b j ≤ number.size b (st_shndx b j)
       → IsIndexOf (object_of b t) (section_number b (st_shndx b j)) (st_info b j) (st_value b j) (st_size b j)
@@ -114,7 +114,7 @@ module _ (b : List ℕ) (bytes : IsBytes b) (elf : IsElf b) (t : Option ObjectTy
 
   valid_symbol : (j : ℕ) → j < symbol_count b → is_kept_symbol b j ≡ true → IsValidSymbol (object_of b t) (kept_symbol b j)
   valid_symbol j lt is =
-      let p = symbol_place b j in
+      let p = symbol_offset b j in
       let index = index_of j lt is in
       record {
         name = string_without_nul (symbol_strings b) (st_name b j);

@@ -12,10 +12,10 @@ use Rattle.btf_types.specs.Valid.{IsValid, IsValidRecord, facts}
 use Rattle.btf_types.specs.checks.Numbers.{TypeFacts}
 use Rattle.btf_types.proofs.{Denoting.frames_of, Denoting.denotes_unique, Denoting.nothing_is_no_frame, Encoded.encoded_frame, TableLemmas.TableSteps.frames_denote}
 use Rattle.btf_types.proofs.{CheckLemmas.FieldsLaw.fields_have_none, FaultlessLemmas.Faultless.frames_encode, FaultlessLemmas.Faultless.frames_valid}
-use Rattle.btf_types.proofs.{Members.Has, Members.Has-get_or, StringLemmas.Texts.Has-kept, StringLemmas.Texts.text_at_place, StringLemmas.Texts.empty_at_zero}
+use Rattle.btf_types.proofs.{Members.Has, Members.Has-get_or, StringLemmas.Texts.Has-kept, StringLemmas.Texts.text_at_offset, StringLemmas.Texts.empty_at_zero}
 use Rattle.bpf_canon.specs.btf.CanonicalBtf.{record_words}
 use Rattle.bpf_canon.proofs.BtfLemmas.{CanonicalEncodes.records_encode, CanonicalEncodes.all_names, CanonicalFiles.types_size}
-use Rattle.bpf_object.specs.Canonical.{strings_of, place_of, types_bytes, btf_of}
+use Rattle.bpf_object.specs.Canonical.{strings_of, offset_of, types_bytes, btf_of}
 use Rattle.bpf_object.proofs.ReadBackStrings.{table_ends}
 
 -- ---- the frames of a file
@@ -43,10 +43,10 @@ are_frames strings types (r ∷ v) (f ∷ fs) valid s =
 
 -- ---- names
 
--- a name is at its place
-pub name_at : (xs : List (List ℕ)) (name : List ℕ) → Has xs name → IsName name → NameAt (strings_of xs) (place_of xs name) name
+-- a name is at its offset
+pub name_at : (xs : List (List ℕ)) (name : List ℕ) → Has xs name → IsName name → NameAt (strings_of xs) (offset_of xs name) name
 name_at xs [] has is = record { text = empty_at_zero (kept xs); utf8 = is.utf8 }
-name_at xs (c ∷ cs) has is = record { text = text_at_place (kept xs) (c ∷ cs) (Has-kept xs c cs has) is.without_nul; utf8 = is.utf8 }
+name_at xs (c ∷ cs) has is = record { text = text_at_offset (kept xs) (c ∷ cs) (Has-kept xs c cs has) is.without_nul; utf8 = is.utf8 }
 
 -- ---- the section
 
@@ -64,43 +64,43 @@ cut_of o types strings few short some = record {
 
 -- the words of a .BTF whose names are among these strings
 abbrev pub words_of : Order → List (List ℕ) → List TypeRecord → SectionWords
-words_of o xs v = record { order = o; strings = strings_of xs; frames = map (record_words (place_of xs)) v }
+words_of o xs v = record { order = o; strings = strings_of xs; frames = map (record_words (offset_of xs)) v }
 
 module _ (o : Order) (xs : List (List ℕ)) (v : List TypeRecord) (valid : IsValid v) (has : (name : List ℕ) → Has (names v) name → Has xs name) (short : length (strings_of xs) ≤ STRINGS_LIMIT) where
   abbrev frames : List (List ℕ)
-  frames = map (record_words (place_of xs)) v
+  frames = map (record_words (offset_of xs)) v
 
-  names_there : All (λ n. NameAt (strings_of xs) (place_of xs n) n) (names v)
+  names_there : All (λ n. NameAt (strings_of xs) (offset_of xs n) n) (names v)
   names_there i d lt = name_at xs (get_or (names v) i d) (has (get_or (names v) i d) (Has-get_or (names v) i d lt)) (all_names (facts v) v valid.each i d lt)
 
   pub words_encode : AllZip (Encodes (strings_of xs)) v frames
-  words_encode = records_encode (strings_of xs) (place_of xs) (facts v) v short valid.each names_there
+  words_encode = records_encode (strings_of xs) (offset_of xs) (facts v) v short valid.each names_there
 
   pub each_frame : All IsFrame frames
   each_frame = are_frames (strings_of xs) (facts v) v frames valid.each words_encode
 
-  pub types_few : length (types_bytes o (place_of xs) v) ≤ TYPES_LIMIT
+  pub types_few : length (types_bytes o (offset_of xs) v) ≤ TYPES_LIMIT
   types_few = let size = valid.size in omega (arith, size, types_size o (strings_of xs) (facts v) v frames valid.each words_encode)
 
-  cut : Cut (btf_of o (types_bytes o (place_of xs) v) (strings_of xs)) o (types_bytes o (place_of xs) v) (strings_of xs)
-  cut = cut_of o (types_bytes o (place_of xs) v) (strings_of xs) types_few short (λ e. omega (arith, e))
+  cut : Cut (btf_of o (types_bytes o (offset_of xs) v) (strings_of xs)) o (types_bytes o (offset_of xs) v) (strings_of xs)
+  cut = cut_of o (types_bytes o (offset_of xs) v) (strings_of xs) types_few short (λ e. omega (arith, e))
 
-  pub btf_denotes : Denotes (btf_of o (types_bytes o (place_of xs) v) (strings_of xs)) v
+  pub btf_denotes : Denotes (btf_of o (types_bytes o (offset_of xs) v) (strings_of xs)) v
   btf_denotes =
-      frames_denote (btf_of o (types_bytes o (place_of xs) v) (strings_of xs)) o (types_bytes o (place_of xs) v) (strings_of xs) v frames cut (table_ends (kept xs))
+      frames_denote (btf_of o (types_bytes o (offset_of xs) v) (strings_of xs)) o (types_bytes o (offset_of xs) v) (strings_of xs) v frames cut (table_ends (kept xs))
       (record { each = each_frame; whole = refl }) words_encode valid
 
   -- what the frames decode to
-  decoded_denotes : Denotes (btf_of o (types_bytes o (place_of xs) v) (strings_of xs)) (records_in (words_of o xs v))
+  decoded_denotes : Denotes (btf_of o (types_bytes o (offset_of xs) v) (strings_of xs)) (records_in (words_of o xs v))
   decoded_denotes =
       let ends = table_ends (kept xs) in
       let none = fields_have_none (strings_of xs) v frames words_encode valid in
-      frames_denote (btf_of o (types_bytes o (place_of xs) v) (strings_of xs)) o (types_bytes o (place_of xs) v) (strings_of xs) (records_in (words_of o xs v)) frames cut ends
+      frames_denote (btf_of o (types_bytes o (offset_of xs) v) (strings_of xs)) o (types_bytes o (offset_of xs) v) (strings_of xs) (records_in (words_of o xs v)) frames cut ends
       (record { each = each_frame; whole = refl })
       (frames_encode (strings_of xs) frames ends each_frame none) (frames_valid (strings_of xs) frames ends each_frame none o short types_few)
 
   pub records_back : records_in (words_of o xs v) ≡ v
-  records_back = denotes_unique (btf_of o (types_bytes o (place_of xs) v) (strings_of xs)) (records_in (words_of o xs v)) v decoded_denotes btf_denotes
+  records_back = denotes_unique (btf_of o (types_bytes o (offset_of xs) v) (strings_of xs)) (records_in (words_of o xs v)) v decoded_denotes btf_denotes
 
-  pub holds_words : HoldsSections (btf_of o (types_bytes o (place_of xs) v) (strings_of xs)) (words_of o xs v)
+  pub holds_words : HoldsSections (btf_of o (types_bytes o (offset_of xs) v) (strings_of xs)) (words_of o xs v)
   holds_words = record { cut = cut; each = each_frame; denotes = decoded_denotes }

@@ -14,9 +14,9 @@ use Rattle.btf_types.specs.{Values.TypeRecord, Denotes.HoldsSections, Valid.IsVa
 use Rattle.btf_types.proofs.{Lists.zip_at, Members.Has}
 use Rattle.bpf_canon.specs.btf.CanonicalBtf.{record_words}
 use Rattle.bpf_object.specs.Objects.{ObjectTypes, Object}
-use Rattle.bpf_object.specs.Canonical.{strings_of, place_of, types_strings, extension_strings, types_bytes, btf_of, btf_bytes, extension_bytes, has_extension, canonical}
+use Rattle.bpf_object.specs.Canonical.{strings_of, offset_of, types_strings, extension_strings, types_bytes, btf_of, btf_bytes, extension_bytes, has_extension, canonical}
 use Rattle.bpf_object.specs.Denotes.{types_of, types_fit}
-use Rattle.bpf_object.specs.{Types.TypesSection, Types.is_order, Types.form_rules, Types.record_rules, Types.records_start, Types.record_place, Types.rules_of, TypesFaults.KeepsTypes}
+use Rattle.bpf_object.specs.{Types.TypesSection, Types.is_order, Types.form_rules, Types.record_rules, Types.records_start, Types.record_offset, Types.rules_of, TypesFaults.KeepsTypes}
 use Rattle.bpf_object.proofs.{ReadBackKinds.all_hold, ReadBackTests.equal_test, ReadBackTests.most_test}
 use Rattle.bpf_object.proofs.CanonValid.{ValidObject, IsSmall}
 use Rattle.bpf_object.proofs.CanonNames.{has_left, has_right}
@@ -54,13 +54,13 @@ has_flat f (x ∷ xs) (suc k) d y lt h = has_right (f x) (flat_map f xs) y (has_
 module _ (o : Order) (xs : List (List ℕ)) (v : List TypeRecord) (valid : IsValid v) (has : (name : List ℕ) → Has (names v) name → Has xs name) (short : length (strings_of xs) ≤ STRINGS_LIMIT)
     (free : AreFree v) where
   abbrev frames : List (List ℕ)
-  frames = map (record_words (place_of xs)) v
+  frames = map (record_words (offset_of xs)) v
 
-  frame_is : (k : ℕ) → k < length v → get_or frames k [] ≡ record_words (place_of xs) (get_or v k no_record)
-  frame_is k lt = get_or-map (record_words (place_of xs)) v k no_record [] lt
+  frame_is : (k : ℕ) → k < length v → get_or frames k [] ≡ record_words (offset_of xs) (get_or v k no_record)
+  frame_is k lt = get_or-map (record_words (offset_of xs)) v k no_record [] lt
 
   there : (k : ℕ) → k < length v → k < length frames
-  there k lt = omega (arith, lt, length-map v (record_words (place_of xs)))
+  there k lt = omega (arith, lt, length-map v (record_words (offset_of xs)))
 
   decoded : (k : ℕ) → k < length v → record_of (strings_of xs) (get_or frames k []) ≡ get_or v k no_record
   decoded k lt =
@@ -70,18 +70,18 @@ module _ (o : Order) (xs : List (List ℕ)) (v : List TypeRecord) (valid : IsVal
   record_holds pos k lt =
       let r = get_or v k no_record in
       let is = frame_is k lt in
-      let encodes : Encodes (strings_of xs) r (record_words (place_of xs) r) =
+      let encodes : Encodes (strings_of xs) r (record_words (offset_of xs) r) =
       subst (λ (f : List ℕ). Encodes (strings_of xs) r f) is (zip_at (Encodes (strings_of xs)) v frames k no_record [] (words_encode o xs v valid has short) lt) in
-      let frame : IsFrame (record_words (place_of xs) r) = subst (λ (f : List ℕ). IsFrame f) is (each_frame o xs v valid has short k [] (there k lt)) in
-      let back : record_of (strings_of xs) (record_words (place_of xs) r) ≡ r = ap (λ (f : List ℕ). record_of (strings_of xs) f) (sym is) ∙ decoded k lt in
+      let frame : IsFrame (record_words (offset_of xs) r) = subst (λ (f : List ℕ). IsFrame f) is (each_frame o xs v valid has short k [] (there k lt)) in
+      let back : record_of (strings_of xs) (record_words (offset_of xs) r) ≡ r = ap (λ (f : List ℕ). record_of (strings_of xs) f) (sym is) ∙ decoded k lt in
       subst (λ (f : List ℕ). AllHold (record_rules (strings_of xs) pos f)) (sym is)
       (record_kept xs (facts v) r (valid.each k no_record lt) (λ name h. has name (has_flat record_names v k no_record name lt h)) encodes frame back (free k lt) pos)
 
   -- a section with these bytes
-  pub keeps_types : (x : TypesSection) → x.order ≡ o → x.bytes ≡ btf_of o (types_bytes o (place_of xs) v) (strings_of xs) → length x.bytes ≤ 15728640 → KeepsTypes x (words_of o xs v)
+  pub keeps_types : (x : TypesSection) → x.order ≡ o → x.bytes ≡ btf_of o (types_bytes o (offset_of xs) v) (strings_of xs) → length x.bytes ≤ 15728640 → KeepsTypes x (words_of o xs v)
   keeps_types x order bytes fit =
       let s = words_of o xs v in
-      let types = types_bytes o (place_of xs) v in
+      let types = types_bytes o (offset_of xs) v in
       let ordered : is_order o x.order ≡ true = ap (λ (p : Order). is_order o p) order ∙ same_order_test o in
       let off : (word32_at o x.bytes 8 == 0) ≡ true =
       equal_test (word32_at o x.bytes 8) 0 (ap (λ (b : List ℕ). word32_at o b 8) bytes ∙ type_off_is o types (strings_of xs) (types_few o xs v valid has short) short) in
@@ -91,7 +91,7 @@ module _ (o : Order) (xs : List (List ℕ)) (v : List TypeRecord) (valid : IsVal
         rules =
             both_hold (form_rules x s) (each (length frames) (rules_of (records_start x s) s)) (rw (ordered, off) refl)
             (all_hold (length frames) (rules_of (records_start x s) s)
-            (λ k lt. record_holds (record_place (records_start x s) s k) k (omega (arith, lt, length-map v (record_words (place_of xs))))));
+            (λ k lt. record_holds (record_offset (records_start x s) s k) k (omega (arith, lt, length-map v (record_words (offset_of xs))))));
       }
 
 -- ---- the canonical file
@@ -99,25 +99,25 @@ module _ (o : Order) (xs : List (List ℕ)) (v : List TypeRecord) (valid : IsVal
 -- what types_fit says
 pub record AreSmallTypes (o : Order) (t : ObjectTypes) : Type 0 where
   pub types : length (btf_bytes o t) ≤ 15728640
-  pub extension : has_extension t ≡ true → length (extension_bytes o (place_of (types_strings t)) t) ≤ FILE_LIMIT
+  pub extension : has_extension t ≡ true → length (extension_bytes o (offset_of (types_strings t)) t) ≤ FILE_LIMIT
 
 abbrev fits : Order → Option ObjectTypes → Bool
 fits o None = true
 fits o (Some t) =
     nat_le (length (btf_bytes o t)) 15728640
-    && (if has_extension t then nat_le (length (extension_bytes o (place_of (types_strings t)) t)) FILE_LIMIT else true)
+    && (if has_extension t then nat_le (length (extension_bytes o (offset_of (types_strings t)) t)) FILE_LIMIT else true)
 
 pub small_types : (x : Object) (t : ObjectTypes) → x.types ≡ Some t → types_fit x ≡ true → AreSmallTypes x.order t
 small_types x t is fit =
     let both : (nat_le (length (btf_bytes x.order t)) 15728640
-    && (if has_extension t then nat_le (length (extension_bytes x.order (place_of (types_strings t)) t)) FILE_LIMIT else true)) ≡ true =
+    && (if has_extension t then nat_le (length (extension_bytes x.order (offset_of (types_strings t)) t)) FILE_LIMIT else true)) ≡ true =
     subst (λ (q : Option ObjectTypes). fits x.order q ≡ true) is fit in
     let parts = and_parts (nat_le (length (btf_bytes x.order t)) 15728640) _ both in
     record {
       types = leb-true _ _ parts.0;
       extension = λ has.
           leb-true _ _
-          (subst (λ (y : Bool). (if y then nat_le (length (extension_bytes x.order (place_of (types_strings t)) t)) FILE_LIMIT else true) ≡ true) has parts.1);
+          (subst (λ (y : Bool). (if y then nat_le (length (extension_bytes x.order (offset_of (types_strings t)) t)) FILE_LIMIT else true) ≡ true) has parts.1);
     }
 
 -- the words of its .BTF
@@ -131,7 +131,7 @@ module _ (x : Object) (valid : ValidObject x) (small : IsSmall x) (t : ObjectTyp
   pub strings_short : length (strings_of (types_strings t)) ≤ STRINGS_LIMIT
   strings_short =
       let few = fit.types in
-      omega (arith, few, strings_length x.order (types_bytes x.order (place_of (types_strings t)) t.records) (strings_of (types_strings t)))
+      omega (arith, few, strings_length x.order (types_bytes x.order (offset_of (types_strings t)) t.records) (strings_of (types_strings t)))
 
   pub canonical_records : map (record_of (strings_of (types_strings t))) (canonical_words x.order t).frames ≡ t.records
   canonical_records = records_back x.order (types_strings t) t.records records names_there strings_short

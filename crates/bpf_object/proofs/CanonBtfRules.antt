@@ -15,11 +15,11 @@ use Rattle.btf_types.specs.Encoding.{Encodes, kind_number, head_tail, record_vle
 use Rattle.btf_types.specs.checks.{Numbers.TypeFacts, FieldFaults.width}
 use Rattle.btf_types.specs.Sections.{SectionWords, records_in}
 use Rattle.btf_types.proofs.{Lists.zip_at, Members.Has, Encoded.numbers, Encoded.info_parts, Encoded.kind_below, Encoded.vlen_below, Encoded.flag_below, EncodedItems.nothing, EncodedItems.no_tail, EncodedItems.counted}
-use Rattle.btf_types.proofs.{CheckLemmas.RoleSteps.named_words, FaultlessLemmas.FaultlessRecords.bit_fields_there, StringLemmas.Texts.Has-kept, StringLemmas.Texts.text_at_place}
+use Rattle.btf_types.proofs.{CheckLemmas.RoleSteps.named_words, FaultlessLemmas.FaultlessRecords.bit_fields_there, StringLemmas.Texts.Has-kept, StringLemmas.Texts.text_at_offset}
 use Rattle.bpf_canon.specs.btf.CanonicalBtf.{canonical_flag, words_of_item, record_words}
 use Rattle.bpf_canon.proofs.BtfLemmas.CanonicalEncodes.{flag_encodes}
-use Rattle.bpf_object.specs.Canonical.{strings_of, place_of}
-use Rattle.bpf_object.specs.Types.{TypesSection, form_rules, leads_to_name, is_reserved_section, is_flagged, head_rules, item_name, item_rules, named_items, record_rules, records_start, record_place, rules_of}
+use Rattle.bpf_object.specs.Canonical.{strings_of, offset_of}
+use Rattle.bpf_object.specs.Types.{TypesSection, form_rules, leads_to_name, is_reserved_section, is_flagged, head_rules, item_name, item_rules, named_items, record_rules, records_start, record_offset, rules_of}
 use Rattle.bpf_object.specs.{TypesFaults.KeepsTypes, Lines.any_of}
 use Rattle.bpf_object.proofs.{CanonBtf.held_encode, CanonNames.has_mapped, CanonRules.rule_holds, ReadBackKinds.all_hold, ReadBackStrings.string_read, RecordLemmas.HasItem, RecordLemmas.item_there, RecordLemmas.some_width}
 
@@ -38,12 +38,12 @@ first_byte strings off c cs t =
 some_byte : (off c : ℕ) → ¬ (c ≡ 0) → (off == 0 || not (c == 0)) ≡ true
 some_byte off c other = or_right (off == 0) (not (c == 0)) (ap not (ne_eqb c 0 other))
 
--- the place of a name leads to it
-pub place_leads : (xs : List (List ℕ)) (name : List ℕ) → Has xs name → IsWithoutNul name → leads_to_name (strings_of xs) (place_of xs name) ≡ true
-place_leads xs [] has none = refl
-place_leads xs (c ∷ cs) has none =
-    let off = place_of xs (c ∷ cs) in
-    let byte = first_byte (strings_of xs) off c cs (text_at_place (kept xs) (c ∷ cs) (Has-kept xs c cs has) none) in
+-- the offset of a name leads to it
+pub offset_leads : (xs : List (List ℕ)) (name : List ℕ) → Has xs name → IsWithoutNul name → leads_to_name (strings_of xs) (offset_of xs name) ≡ true
+offset_leads xs [] has none = refl
+offset_leads xs (c ∷ cs) has none =
+    let off = offset_of xs (c ∷ cs) in
+    let byte = first_byte (strings_of xs) off c cs (text_at_offset (kept xs) (c ∷ cs) (Has-kept xs c cs has) none) in
     ap (λ (d : ℕ). off == 0 || not (d == 0)) byte ∙ some_byte off c (none 0 (omega arith))
 
 -- ---- sections of reserved names
@@ -91,7 +91,7 @@ item_length place (KDatasec name size) (Entry target offset bytes) of = refl
 item_length place (KEnum64 name signed size) (Value64 n value) of = refl
 item_length place h x of = absurd of
 
--- the first word of an item is the place of its name
+-- the first word of an item is the offset of its name
 item_first : (place : List ℕ → ℕ) (h : TypeHead) (x : TypeItem) (rest : List ℕ) → ItemOf h x → has_item_names (kind_number h) ≡ true
     → get_or (words_of_item place x ++ rest) 0 0 ≡ place (name_of_item x)
 unfolding has_item_names
@@ -118,13 +118,13 @@ item_place place h (x ∷ xs) (suc k) of has lt =
 -- ---- a record
 
 module _ (xs : List (List ℕ)) (types : List TypeFacts) (r : TypeRecord) (valid : IsValidRecord types r) (has : (name : List ℕ) → Has (record_names r) name → Has xs name)
-    (s : Encodes (strings_of xs) r (record_words (place_of xs) r)) (frame : IsFrame (record_words (place_of xs) r)) (back : record_of (strings_of xs) (record_words (place_of xs) r) ≡ r)
+    (s : Encodes (strings_of xs) r (record_words (offset_of xs) r)) (frame : IsFrame (record_words (offset_of xs) r)) (back : record_of (strings_of xs) (record_words (offset_of xs) r) ≡ r)
     (free : is_reserved_record r ≡ false) (pos : ℕ) where
   abbrev f : List ℕ
-  f = record_words (place_of xs) r
+  f = record_words (offset_of xs) r
 
-  named : (name : List ℕ) → Has (record_names r) name → leads_to_name (strings_of xs) (place_of xs name) ≡ true
-  named name there = place_leads xs name (has name there) (all_has IsName (record_names r) name valid.names there).without_nul
+  named : (name : List ℕ) → Has (record_names r) name → leads_to_name (strings_of xs) (offset_of xs name) ≡ true
+  named name there = offset_leads xs name (has name there) (all_has IsName (record_names r) name valid.names there).without_nul
 
   kind_is : kind f ≡ kind_number r.head
   kind_is = (numbers (strings_of xs) types r f valid s).kind
@@ -165,16 +165,16 @@ module _ (xs : List (List ℕ)) (types : List TypeFacts) (r : TypeRecord) (valid
       let vlen_is = (numbers (strings_of xs) types r f valid s).vlen in
       omega (arith, low, vlen_is, counted r.head r.items (named_words (kind_number r.head) (named_kind k it)))
 
-  item_word : (k : ℕ) → k < named_items f → slice_index f (item_name f k) ≡ place_of xs (name_of_item (get_or r.items k nothing))
+  item_word : (k : ℕ) → k < named_items f → slice_index f (item_name f k) ≡ offset_of xs (name_of_item (get_or r.items k nothing))
   item_word k lt =
       let it = item_there f k lt in
       let its : item_words (kind f) ≡ item_words (kind_number r.head) = ap item_words kind_is in
       let some : 0 < item_words (kind_number r.head) = named_words (kind_number r.head) (named_kind k it) in
       let j = item_words (kind_number r.head) * k in
       let at : item_name f k ≡ suc (suc (suc j)) = rw its (omega arith) in
-      let rest : head_tail r.head ++ flat_map (words_of_item (place_of xs)) r.items ≡ flat_map (words_of_item (place_of xs)) r.items = rw (no_tail r.head some) refl in
+      let rest : head_tail r.head ++ flat_map (words_of_item (offset_of xs)) r.items ≡ flat_map (words_of_item (offset_of xs)) r.items = rw (no_tail r.head some) refl in
       ap (λ (i : ℕ). slice_index f i) at ∙ ap (λ (t : List ℕ). get_or t j 0) rest
-      ∙ item_place (place_of xs) r.head r.items k valid.items_of (named_kind k it) (item_inside k it)
+      ∙ item_place (offset_of xs) r.head r.items k valid.items_of (named_kind k it) (item_inside k it)
 
   item_kept : (k : ℕ) → k < named_items f → AllHold (item_rules (strings_of xs) pos f k)
   item_kept k lt =
@@ -200,7 +200,7 @@ pub held_free : (x : TypesSection) (s : SectionWords) → KeepsTypes x s → Are
 held_free x s keeps k lt =
     let there : k < length s.frames = omega (arith, lt, length-map s.frames (record_of s.strings)) in
     let f = get_or s.frames k [] in
-    let pos = record_place (records_start x s) s k in
+    let pos = record_offset (records_start x s) s k in
     let rules = each_holds (length s.frames) k (rules_of (records_start x s) s) there (rest_hold (form_rules x s) (each (length s.frames) (rules_of (records_start x s) s)) keeps.rules) in
     let head = first_hold (head_rules s.strings pos f) (each (named_items f) (item_rules s.strings pos f)) rules in
     let other = (rule_holds _ _ _ (rule_holds _ _ _ head).1).0 in

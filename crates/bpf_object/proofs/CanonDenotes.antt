@@ -5,7 +5,7 @@ use Rattle.std.proofs.lemmas.Bool.{and_parts, cases_Bool, ltb-true, leb-true, eq
 use Rattle.bpf_words.specs.{Words.IsBytes}
 use Rattle.bpf_elf.specs.{Header.FILE_LIMIT, Header.SHN_LORESERVE, Numbers.offset, Sections.content, Rules.AllHold}
 use Rattle.bpf_object.specs.Objects.{ObjectTypes, Object}
-use Rattle.bpf_object.specs.Canonical.{strings_of, place_of, types_strings, has_extension, extension_bytes, written_sections, canonical}
+use Rattle.bpf_object.specs.Canonical.{strings_of, offset_of, types_strings, has_extension, extension_bytes, written_sections, canonical}
 use Rattle.bpf_object.specs.Denotes.{extension_at, extension_of, rules_of_extension, object_types, HoldsTypes, TypesAre, types_fit, is_small, Denotes}
 use Rattle.bpf_object.specs.Extension.{Section}
 use Rattle.bpf_object.specs.Groups.{function_groups, relocation_groups}
@@ -62,7 +62,7 @@ module _ (x : Object) (valid : ValidObject x) (small : IsSmall x) (t : ObjectTyp
   with_extension has =
       let c = canonical x in
       let here = extension_back x valid small t is has in
-      let bytes = extension_bytes x.order (place_of (types_strings t)) t in
+      let bytes = extension_bytes x.order (offset_of (types_strings t)) t in
       let some = here.some in
       let there : (extension_at c == 0) ≡ false = ne_eqb (extension_at c) 0 (λ e. omega (arith, e, some)) in
       let whole : (extension_of c strings).bytes ≡ bytes = ap (λ (y : Bool). if y then [] else content c (extension_at c)) there ∙ here.bytes_are in

@@ -11,7 +11,7 @@ use Rattle.btf_types.specs.Names.{names}
 use Rattle.btf_types.proofs.Members.{Has}
 use Rattle.bpf_object.specs.declared.extension.Part.{TheVariants.Functions, TheVariants.Lines, TheVariants.Relocations}
 use Rattle.bpf_object.specs.Objects.{Function, CoreRelocation, Group, ObjectTypes}
-use Rattle.bpf_object.specs.Canonical.{strings_of, place_of, function_strings, relocation_strings, extension_strings, types_strings, group_bytes, part_bytes, function_bytes, line_bytes, relocation_bytes, functions_part, lines_part, relocations_part, extension_bytes, has_extension}
+use Rattle.bpf_object.specs.Canonical.{strings_of, offset_of, function_strings, relocation_strings, extension_strings, types_strings, group_bytes, part_bytes, function_bytes, line_bytes, relocation_bytes, functions_part, lines_part, relocations_part, extension_bytes, has_extension}
 use Rattle.bpf_object.specs.Extension.{Section, groups, head_rules, part_rules}
 use Rattle.bpf_object.specs.Groups.{function_groups, relocation_groups}
 use Rattle.bpf_object.specs.Lines.{pairs_rules, accesses_rules, extension_rules}
@@ -53,12 +53,12 @@ record IsValidName {R : Type 0} (xs : List (List ℕ)) (gr : Group R) : Type 0 w
   group : IsValidGroup gr
   has : Has xs gr.section
 
-group_fits : {R : Type 0} (xs : List (List ℕ)) → length (strings_of xs) ≤ STRINGS_LIMIT → (gr : Group R) → IsValidName xs gr → FitsGroup (place_of xs) gr
+group_fits : {R : Type 0} (xs : List (List ℕ)) → length (strings_of xs) ≤ STRINGS_LIMIT → (gr : Group R) → IsValidName xs gr → FitsGroup (offset_of xs) gr
 group_fits xs short gr its = record { name = omega (arith, short, name_inside xs gr.section its.has its.group.section); few = its.group.few }
 
-group_named : {R : Type 0} (xs : List (List ℕ)) (gr : Group R) → IsValidName xs gr → IsNamed (place_of xs) (strings_of xs) gr
+group_named : {R : Type 0} (xs : List (List ℕ)) (gr : Group R) → IsValidName xs gr → IsNamed (offset_of xs) (strings_of xs) gr
 group_named xs gr its =
-    let place = place_of xs gr.section in
+    let place = offset_of xs gr.section in
     let short = its.group.short in
     record {
       some = its.group.some;
@@ -80,12 +80,12 @@ some_bytes o size bytes [] some = absurd (omega (arith, some))
 some_bytes o size bytes (g ∷ gs) some = omega (arith, length-append (word32 o size) (flat_map bytes (g ∷ gs)), length-word32 o size)
 
 module _ (o : Order) (start : ℕ) (t : ObjectTypes) (valid : IsValidExtension t) (strings_fit : length (strings_of (types_strings t)) ≤ STRINGS_LIMIT)
-    (short : length (extension_bytes o (place_of (types_strings t)) t) ≤ FILE_LIMIT) where
+    (short : length (extension_bytes o (offset_of (types_strings t)) t) ≤ FILE_LIMIT) where
   abbrev xs : List (List ℕ)
   xs = types_strings t
 
   abbrev place : List ℕ → ℕ
-  place = place_of xs
+  place = offset_of xs
 
   abbrev strings : List ℕ
   strings = strings_of xs
@@ -195,11 +195,11 @@ module _ (o : Order) (start : ℕ) (t : ObjectTypes) (valid : IsValidExtension t
   function_places : AllZip (AtFunctions x place) t.functions (groups x Functions)
   function_places = groups_of_part x Functions place (function_bytes o) (function_size o) no_function t.functions 32 functions_at functions_fit
 
-  line_places : AllZip (AtLines x place) t.functions (groups x Lines)
-  line_places = groups_of_part x Lines place (line_bytes o) (line_size o) no_function t.functions (32 + length functions) lines_at functions_fit
+  line_offsets : AllZip (AtLines x place) t.functions (groups x Lines)
+  line_offsets = groups_of_part x Lines place (line_bytes o) (line_size o) no_function t.functions (32 + length functions) lines_at functions_fit
 
-  relocation_places : AllZip (AtRelocations x place) t.relocations (groups x Relocations)
-  relocation_places =
+  relocation_offsets : AllZip (AtRelocations x place) t.relocations (groups x Relocations)
+  relocation_offsets =
       groups_of_part x Relocations place (relocation_bytes o place) (relocation_size o place) no_core_relocation t.relocations (32 + (length functions + length lines))
       relocations_at relocations_fit
 
@@ -230,8 +230,8 @@ module _ (o : Order) (start : ℕ) (t : ObjectTypes) (valid : IsValidExtension t
   last_kept : AllHold (pairs_rules x (groups x Functions) (groups x Lines) ++ accesses_rules x (groups x Relocations))
   last_kept =
       both_hold (pairs_rules x (groups x Functions) (groups x Lines)) (accesses_rules x (groups x Relocations))
-      (pairs_kept x place t.functions (groups x Functions) (groups x Lines) valid.functions function_places line_places)
-      (accesses_kept x place strings_low t.relocations (groups x Relocations) valid.relocations accesses_noted relocation_places)
+      (pairs_kept x place t.functions (groups x Functions) (groups x Lines) valid.functions function_places line_offsets)
+      (accesses_kept x place strings_low t.relocations (groups x Relocations) valid.relocations accesses_noted relocation_offsets)
 
   pub extension_said : has_extension t ≡ true → SaysExtension written_section t
   extension_said has =
@@ -243,5 +243,5 @@ module _ (o : Order) (start : ℕ) (t : ObjectTypes) (valid : IsValidExtension t
             (both_hold (part_rules x Functions) (part_rules x Lines ++ (part_rules x Relocations ++ last)) functions_kept
             (both_hold (part_rules x Lines) (part_rules x Relocations ++ last) lines_kept (both_hold (part_rules x Relocations) last relocations_kept last_kept)));
         functions = functions_back x place t.functions (groups x Functions) valid.functions functions_read function_places;
-        relocations = relocations_back x place strings_low t.relocations (groups x Relocations) valid.relocations relocations_read accesses_noted relocation_places;
+        relocations = relocations_back x place strings_low t.relocations (groups x Relocations) valid.relocations relocations_read accesses_noted relocation_offsets;
       }

@@ -14,7 +14,7 @@ use Rattle.btf_types.proofs.StringLemmas.Texts.{bytes_eq-same}
 use Rattle.bpf_object.specs.declared.extension.Part.{TheVariants.Functions, TheVariants.Lines, TheVariants.Relocations}
 use Rattle.bpf_object.specs.Objects.{Function, CoreRelocation, Group}
 use Rattle.bpf_object.specs.Canonical.{function_bytes, line_bytes, relocation_bytes}
-use Rattle.bpf_object.specs.Extension.{Section, word, group_count, record_size, record_place}
+use Rattle.bpf_object.specs.Extension.{Section, word, group_count, record_size, record_offset}
 use Rattle.bpf_object.specs.Groups.{function_at, relocation_at, function_group, relocation_group}
 use Rattle.bpf_object.specs.Kept.{listed}
 use Rattle.bpf_object.specs.Lines.{name_of, insn_off, all_of, ascends, has_line, have_lines, is_pair, pairs_rules, access_rules, accesses_rules}
@@ -70,7 +70,7 @@ module _ (x : Section) (place : List ℕ → ℕ) where
   abbrev pub AtRelocations : Group CoreRelocation → ℕ → Type 0
   AtRelocations gr g = IsGroupAt x Relocations place (relocation_bytes x.order place) (relocation_size x.order place) no_core_relocation gr g
 
-  -- a string is read at its place
+  -- a string is read at its offset
   abbrev pub IsRead : List ℕ → Type 0
   IsRead name = string_at x.strings (place name) ≡ name
 
@@ -81,21 +81,21 @@ module _ (x : Section) (place : List ℕ → ℕ) where
   function_offset gr g valid at k lt =
       let f = get_or gr.records k no_function in
       let here = at.rows k lt in
-      read_32 x.order x.bytes (record_place Functions g k) f.offset (has_first x.bytes (record_place Functions g k) (word32 x.order f.offset) (word32 x.order f.type) here) (valid.each k lt).offset
+      read_32 x.order x.bytes (record_offset Functions g k) f.offset (has_first x.bytes (record_offset Functions g k) (word32 x.order f.offset) (word32 x.order f.type) here) (valid.each k lt).offset
 
   function_type : (gr : Group Function) (g : ℕ) → AreValidFunctions gr → AtFunctions gr g → (k : ℕ) → k < length gr.records
-      → word x (record_place Functions g k + 4) ≡ (get_or gr.records k no_function).type
+      → word x (record_offset Functions g k + 4) ≡ (get_or gr.records k no_function).type
   function_type gr g valid at k lt =
       let f = get_or gr.records k no_function in
       let here = at.rows k lt in
-      read_32 x.order x.bytes (record_place Functions g k + 4) f.type
-      (has_rest x.bytes (record_place Functions g k) 4 (word32 x.order f.offset) (word32 x.order f.type) here (length-word32 x.order f.offset)) (valid.each k lt).type
+      read_32 x.order x.bytes (record_offset Functions g k + 4) f.type
+      (has_rest x.bytes (record_offset Functions g k) 4 (word32 x.order f.offset) (word32 x.order f.type) here (length-word32 x.order f.offset)) (valid.each k lt).type
 
   line_offset : (gr : Group Function) (g : ℕ) → AreValidFunctions gr → AtLines gr g → (k : ℕ) → k < length gr.records
       → insn_off x Lines g k ≡ (get_or gr.records k no_function).offset
   line_offset gr g valid at k lt =
       let f = get_or gr.records k no_function in
-      let pos = record_place Lines g k in
+      let pos = record_offset Lines g k in
       let first = word32 x.order f.offset in
       let zero_word = word32 x.order 0 in
       let here = at.rows k lt in
@@ -179,10 +179,10 @@ module _ (x : Section) (place : List ℕ → ℕ) where
 
   module _ (short : length x.strings < 2 ^ 32) where
     core_at : (gr : Group CoreRelocation) (g : ℕ) → AreValidRelocations gr → AreNoted gr → AtRelocations gr g → (k : ℕ) → k < length gr.records
-        → IsCoreAt (get_or gr.records k no_core_relocation) (record_place Relocations g k)
+        → IsCoreAt (get_or gr.records k no_core_relocation) (record_offset Relocations g k)
     core_at gr g valid noted at k lt =
         let inside = noted.inside k lt in
-        core_there (get_or gr.records k no_core_relocation) (record_place Relocations g k) (valid.each k lt) (omega (arith, short, inside)) (at.rows k lt)
+        core_there (get_or gr.records k no_core_relocation) (record_offset Relocations g k) (valid.each k lt) (omega (arith, short, inside)) (at.rows k lt)
 
     relocation_back : (gr : Group CoreRelocation) (g : ℕ) → AreValidRelocations gr → IsRead gr.section → AreNoted gr → AtRelocations gr g → relocation_group x g ≡ gr
     relocation_back gr g valid read noted at =
@@ -208,8 +208,8 @@ module _ (x : Section) (place : List ℕ → ℕ) where
         let there : k < length gr.records = omega (arith, lt, count) in
         let inside = noted.inside k there in
         let here = (core_at gr g valid noted at k there).access in
-        let low : nat_lt (word x (record_place Relocations g k + 8)) (length x.strings) ≡ true =
-        less_test (word x (record_place Relocations g k + 8)) (length x.strings) (omega (arith, here, inside)) in
+        let low : nat_lt (word x (record_offset Relocations g k + 8)) (length x.strings) ≡ true =
+        less_test (word x (record_offset Relocations g k + 8)) (length x.strings) (omega (arith, here, inside)) in
         rw low refl
 
     pub accesses_kept : (gs : List (Group CoreRelocation)) (places : List ℕ) → All AreValidRelocations gs → All AreNoted gs → AllZip AtRelocations gs places → AllHold (accesses_rules x places)

@@ -12,7 +12,7 @@ use Rattle.bpf_elf.proofs.RuleLemmas.{first_hold, rest_hold}
 use Rattle.btf_raw.specs.Names.{IsWithoutNul}
 use Rattle.bpf_object.specs.declared.extension.Part.{Part, TheVariants.Functions, TheVariants.Lines, TheVariants.Relocations}
 use Rattle.bpf_object.specs.Objects.{Function, CoreRelocation, Group}
-use Rattle.bpf_object.specs.Extension.{Section, word, group_count, group_name, groups, next_group, part_end, head_rules, group_rules, groups_rules, form_rules, part_rules, record_place}
+use Rattle.bpf_object.specs.Extension.{Section, word, group_count, group_name, groups, next_group, part_end, head_rules, group_rules, groups_rules, form_rules, part_rules, record_offset}
 use Rattle.bpf_object.specs.Groups.{function_at, access_off, relocation_at, function_group, relocation_group, function_groups, relocation_groups}
 use Rattle.bpf_object.specs.{Faults.ObjectRule, Kept.listed}
 use Rattle.bpf_object.specs.Lines.{name_of, insn_off, all_of, ascends, have_lines, is_pair, pairs_rules, accesses_rules, extension_rules}
@@ -117,7 +117,7 @@ module _ (x : Section) (bytes : IsBytes x.bytes) where
         group = valid_group (function_at x f) f (group_facts Functions f rules);
         each = λ k lt.
             subst IsValidFunction (sym (at k lt))
-            (record { offset = word_low (record_place Functions f k); type = word_low (record_place Functions f k + 4) });
+            (record { offset = word_low (record_offset Functions f k); type = word_low (record_offset Functions f k + 4) });
         ascend =
             sym (ascends_is x Functions f (function_group x f).records (sym count) (λ k lt. ap (λ (h : Function). h.offset) (sym (at k lt)))) ∙ ascend;
       }
@@ -141,10 +141,10 @@ module _ (x : Section) (bytes : IsBytes x.bytes) where
         each = λ k lt.
             subst IsValidCore (sym (get-all (relocation_at x g) (group_count x g) k no_core_relocation (omega (arith, lt, count))))
             (record {
-              offset = word_low (record_place Relocations g k);
-              type = word_low (record_place Relocations g k + 4);
+              offset = word_low (record_offset Relocations g k);
+              type = word_low (record_offset Relocations g k + 4);
               access = string_without_nul x.strings (access_off x g k);
-              kind = word_low (record_place Relocations g k + 12);
+              kind = word_low (record_offset Relocations g k + 12);
             });
       }
 

@@ -64,7 +64,7 @@ module _ (b : List ℕ) (elf : IsElf b) where
 
   first_type : number.type b 0 ≡ 0
   first_type =
-      word_zero (order_of b) b (number.place b 0 + 4)
+      word_zero (order_of b) b (number.header_offset b 0 + 4)
       (λ i from lt. zero_bytes b (number.table b) 64 names.first i (omega (arith, from)) (omega (arith, lt)))
 
   names_other : (number.names b == 0) ≡ false

@@ -6,7 +6,7 @@ use Rattle.bpf_words.specs.declared.Order.{Order}
 use Rattle.bpf_elf.specs.Kinds.{SHT_NOBITS, SHT_REL}
 use Rattle.bpf_elf.specs.Symbols.{is_local}
 use Rattle.bpf_elf.proofs.KindLemmas.{relocations_type}
-use Rattle.bpf_object.specs.File.{WrittenSection, content_place, file_of}
+use Rattle.bpf_object.specs.File.{WrittenSection, content_offset, file_of}
 use Rattle.bpf_object.specs.Objects.{KeptRelocation, KeptSection, KeptSymbol, Object}
 use Rattle.bpf_object.specs.Canonical.{types_names, symbol_bytes, row_bytes, first_global, symtab_number, canonical}
 use Rattle.bpf_object.proofs.ReadBackWords.{has_inside}
@@ -15,7 +15,7 @@ use Rattle.bpf_object.proofs.ReadBackFile.{FieldsFit, IsWritable}
 use Rattle.bpf_object.proofs.ReadBackRows.{length-rows, flat_map_rows}
 use Rattle.bpf_object.proofs.ReadBackTables.{length-relocation_row, length-symbol_row}
 use Rattle.bpf_object.proofs.CanonValid.{section_of, no_relocation, no_symbol, IsValidData, IsValidTable, IsValidSection, ValidObject, IsSmall}
-use Rattle.bpf_object.proofs.CanonNames.{name_table, name_place, file_name_inside, section_name_there}
+use Rattle.bpf_object.proofs.CanonNames.{name_table, new_name_offset, file_name_inside, section_name_there}
 use Rattle.bpf_object.proofs.CanonRows.{section_rows, row_count, canonical_is, symtab_row, kept_row, own_name, own_kind, own_count, IsOwnRow, row_count_is, own_row_is, symtab_is, strtab_is}
 
 -- ---- lengths
@@ -55,13 +55,13 @@ other_type : (t : ℕ) → t ≤ 3 → (t == SHT_NOBITS) ≡ false
 other_type t le = grind (arith, nat_tests)
 
 module _ (x : Object) (small : IsSmall x) where
-  pub file_length : length (canonical x) ≡ content_place (section_rows x) (row_count x) + 64 * (row_count x + 1)
+  pub file_length : length (canonical x) ≡ content_offset (section_rows x) (row_count x) + 64 * (row_count x + 1)
   file_length = ap length (canonical_is x) ∙ length-file_of x.order x.flags (section_rows x) (row_count x)
 
   pub row_short : (i : ℕ) → i < row_count x → length (section_rows x i).content ≤ 67108864
   row_short i lt =
       let short = small.short in
-      let inside = has_inside (file_of x.order x.flags (section_rows x) (row_count x)) (content_place (section_rows x) i) (section_rows x i).content (content_there x.order x.flags (section_rows x) (row_count x) i lt) in
+      let inside = has_inside (file_of x.order x.flags (section_rows x) (row_count x)) (content_offset (section_rows x) i) (section_rows x i).content (content_there x.order x.flags (section_rows x) (row_count x) i lt) in
       omega (arith, ap length (canonical_is x), inside, short)
 
   pub few_rows : length x.sections + length (types_names x.types) + 3 < 65280
@@ -78,14 +78,14 @@ module _ (x : Object) (small : IsSmall x) where
   symbols_short =
       let count = row_count_is x in
       let short = row_short (symtab_row x) (omega (arith, count)) in
-      omega (arith, ap (λ (w : WrittenSection). length w.content) (symtab_is x), length-symbol_bytes x.order (name_place x) x.symbols, short)
+      omega (arith, ap (λ (w : WrittenSection). length w.content) (symtab_is x), length-symbol_bytes x.order (new_name_offset x) x.symbols, short)
 
-  -- the place of a name is a word
-  pub place_fits : (i : ℕ) → i < length x.sections → IsValidSection x (section_of x i) → name_place x (section_of x i).name < 2 ^ 32
+  -- the offset of a name is a word
+  pub place_fits : (i : ℕ) → i < length x.sections → IsValidSection x (section_of x i) → new_name_offset x (section_of x i).name < 2 ^ 32
   place_fits i lt valid = omega (arith, file_name_inside x (section_of x i).name (section_name_there x i lt) valid.name, table_short)
 
-  own_place_fits : (w : WrittenSection) (k : ℕ) → IsOwnRow x w (own_name x k) (own_kind x k) → name_place x (own_name x k) < 2 ^ 32
-  own_place_fits w k its = omega (arith, file_name_inside x (own_name x k) its.there its.without_nul, table_short)
+  own_offset_fits : (w : WrittenSection) (k : ℕ) → IsOwnRow x w (own_name x k) (own_kind x k) → new_name_offset x (own_name x k) < 2 ^ 32
+  own_offset_fits w k its = omega (arith, file_name_inside x (own_name x k) its.there its.without_nul, table_short)
 
 -- ---- the fields of a section that is kept
 
@@ -144,7 +144,7 @@ module _ (x : Object) (small : IsSmall x) where
       let alignment = its.alignment in
       let entry_size = its.entry_size in
       record {
-        name_offset = omega (arith, name, own_place_fits x small w k its);
+        name_offset = omega (arith, name, own_offset_fits x small w k its);
         type = omega (arith, type);
         flags = omega (arith, flags);
         address = omega (arith, address);

@@ -13,7 +13,7 @@ use Rattle.bpf_elf.proofs.RuleLemmas.{both_hold}
 use Rattle.bpf_object.specs.declared.extension.Part.{Part}
 use Rattle.bpf_object.specs.Objects.{Group}
 use Rattle.bpf_object.specs.Canonical.{group_bytes, part_bytes}
-use Rattle.bpf_object.specs.Extension.{Section, word, part_offset, part_len, part_start, part_end, group_name, group_count, record_place, record_size, next_group, groups_from, groups, form_rules, group_rules, groups_rules, part_rules}
+use Rattle.bpf_object.specs.Extension.{Section, word, part_offset, part_len, part_start, part_end, group_name, group_count, record_offset, record_size, next_group, groups_from, groups, form_rules, group_rules, groups_rules, part_rules}
 use Rattle.bpf_object.proofs.{ReadBackTests.equal_test, ReadBackTests.less_test, ReadBackTests.most_test}
 use Rattle.bpf_object.proofs.ReadBackRows.{rows, flat_map_rows, row_here}
 use Rattle.bpf_object.proofs.ReadBackWords.{HasBytes, has_same, has_at, has_first, has_rest, has_inside, read_32}
@@ -38,7 +38,7 @@ module _ {R : Type 0} (x : Section) (p : Part) (place : List ℕ → ℕ) (bytes
     pub name : group_name x g ≡ place gr.section
     pub count : group_count x g ≡ length gr.records
     pub within : next_group x p g ≤ part_end x p
-    pub rows : (k : ℕ) → k < length gr.records → HasBytes x.bytes (record_place p g k) (bytes (get_or gr.records k d))
+    pub rows : (k : ℕ) → k < length gr.records → HasBytes x.bytes (record_offset p g k) (bytes (get_or gr.records k d))
 
   records_length : (rs : List R) → length (flat_map bytes rs) ≡ record_size p * length rs
   records_length [] = omega arith
@@ -73,7 +73,7 @@ module _ {R : Type 0} (x : Section) (p : Part) (place : List ℕ → ℕ) (bytes
       record {
         name = read_32 x.order x.bytes g (place gr.section) (has_first x.bytes g first second head) fits.name;
         count = count;
-        within = omega (arith, inside, group_length gr, ap (λ (k : ℕ). record_place p g k) count);
+        within = omega (arith, inside, group_length gr, ap (λ (k : ℕ). record_offset p g k) count);
         rows = λ k lt. row_here x.bytes (g + 8) row (record_size p) (length gr.records) k (λ i. size (get_or gr.records i d)) lt all;
       }
 
@@ -83,7 +83,7 @@ module _ {R : Type 0} (x : Section) (p : Part) (place : List ℕ → ℕ) (bytes
   more_length gr grs = length-append (written gr) (flat_map written grs)
 
   next_is : (gr : Group R) (g : ℕ) → IsGroupAt gr g → next_group x p g ≡ g + length (written gr)
-  next_is gr g here = ap (λ (k : ℕ). record_place p g k) here.count ∙ omega (arith, group_length gr)
+  next_is gr g here = ap (λ (k : ℕ). record_offset p g k) here.count ∙ omega (arith, group_length gr)
 
   pub groups_there : (n : ℕ) (gr : Group R) (grs : List (Group R)) (g : ℕ) → HasBytes x.bytes g (flat_map written (gr ∷ grs)) → All (FitsGroup place) (gr ∷ grs)
       → part_end x p ≡ g + length (flat_map written (gr ∷ grs)) → length (flat_map written (gr ∷ grs)) ≤ n → AllZip IsGroupAt (gr ∷ grs) (groups_from x p n g)

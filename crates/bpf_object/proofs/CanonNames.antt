@@ -5,7 +5,7 @@ use Rattle.btf_raw.specs.Names.{IsWithoutNul}
 use Rattle.btf_types.specs.Names.{kept}
 use Rattle.btf_types.proofs.Members.{Has}
 use Rattle.bpf_object.specs.Objects.{Object}
-use Rattle.bpf_object.specs.Canonical.{strings_of, place_of, types_names, file_strings}
+use Rattle.bpf_object.specs.Canonical.{strings_of, offset_of, types_names, file_strings}
 use Rattle.bpf_object.proofs.ReadBackStrings.{empty_string_in_table, name_in_table, name_below, table_closed}
 use Rattle.bpf_object.proofs.CanonValid.{section_of, symbol_of, nothing, no_symbol}
 
@@ -27,11 +27,11 @@ has_mapped f (x ∷ xs) (suc k) d lt = inr (has_mapped f xs k d (omega (arith, l
 
 -- ---- a name of a table without shared bytes
 
-pub name_reads : (xs : List (List ℕ)) (name : List ℕ) → Has xs name → IsWithoutNul name → string_at (strings_of xs) (place_of xs name) ≡ name
+pub name_reads : (xs : List (List ℕ)) (name : List ℕ) → Has xs name → IsWithoutNul name → string_at (strings_of xs) (offset_of xs name) ≡ name
 name_reads xs [] has none = empty_string_in_table (kept xs)
 name_reads xs (c ∷ cs) has none = name_in_table xs c cs has none
 
-pub name_inside : (xs : List (List ℕ)) (name : List ℕ) → Has xs name → IsWithoutNul name → place_of xs name < length (strings_of xs)
+pub name_inside : (xs : List (List ℕ)) (name : List ℕ) → Has xs name → IsWithoutNul name → offset_of xs name < length (strings_of xs)
 name_inside xs [] has none = omega arith
 name_inside xs (c ∷ cs) has none = name_below xs c cs has none
 
@@ -41,8 +41,8 @@ name_inside xs (c ∷ cs) has none = name_below xs c cs has none
 unfoldable pub name_table : Object → List ℕ
 name_table x = strings_of (file_strings x)
 
-unfoldable pub name_place : Object → List ℕ → ℕ
-name_place x name = place_of (file_strings x) name
+unfoldable pub new_name_offset : Object → List ℕ → ℕ
+new_name_offset x name = offset_of (file_strings x) name
 
 -- a name that the file has
 pub IsNameOf : Object → List ℕ → Type 0
@@ -52,17 +52,17 @@ pub name_table_closed : (x : Object) → is_closed (name_table x) ≡ true
 unfolding name_table
 name_table_closed x = table_closed (kept (file_strings x))
 
-pub file_name_reads : (x : Object) (name : List ℕ) → IsNameOf x name → IsWithoutNul name → string_at (name_table x) (name_place x name) ≡ name
-unfolding name_table name_place IsNameOf
+pub file_name_reads : (x : Object) (name : List ℕ) → IsNameOf x name → IsWithoutNul name → string_at (name_table x) (new_name_offset x name) ≡ name
+unfolding name_table new_name_offset IsNameOf
 file_name_reads x name has none = name_reads (file_strings x) name has none
 
-pub file_name_inside : (x : Object) (name : List ℕ) → IsNameOf x name → IsWithoutNul name → name_place x name < length (name_table x)
-unfolding name_table name_place IsNameOf
+pub file_name_inside : (x : Object) (name : List ℕ) → IsNameOf x name → IsWithoutNul name → new_name_offset x name < length (name_table x)
+unfolding name_table new_name_offset IsNameOf
 file_name_inside x name has none = name_inside (file_strings x) name has none
 
-pub empty_name_place : (x : Object) → name_place x [] ≡ 0
-unfolding name_place
-empty_name_place x = refl
+pub empty_name_offset : (x : Object) → new_name_offset x [] ≡ 0
+unfolding new_name_offset
+empty_name_offset x = refl
 
 -- ---- which names it has
 

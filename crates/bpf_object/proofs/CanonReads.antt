@@ -12,7 +12,7 @@ use Rattle.bpf_elf.specs.Sections.{content, kind, name}
 use Rattle.bpf_elf.specs.Symbols.{symbol_count, symbol_strings, symbol_name, st_name, is_special, is_kept_symbol}
 use Rattle.bpf_elf.specs.Relocations.{relocation_count}
 use Rattle.bpf_elf.proofs.KindLemmas.{true_false}
-use Rattle.bpf_object.specs.File.{WrittenSection, content_place}
+use Rattle.bpf_object.specs.File.{WrittenSection, content_offset}
 use Rattle.bpf_object.specs.Objects.{KeptRelocation, KeptSection, KeptSymbol, Object}
 use Rattle.bpf_object.specs.Canonical.{row_bytes, canonical}
 use Rattle.bpf_object.specs.Kept.{number_of, is_table, is_kept_section, section_number, symbol_section, symbol_number, kept_relocation, table_rows, kept_section, kept_symbol, kept_sections, kept_symbols}
@@ -24,7 +24,7 @@ use Rattle.bpf_object.proofs.ReadBackTables.{HasSymbol, HasRelocation}
 use Rattle.bpf_object.proofs.ReadBackSymbols.{count_of_symbols, symbol_is, symbol_strings_are}
 use Rattle.bpf_object.proofs.ReadBackRelocations.{kept_symbol_is, count_of_relocations, relocation_is}
 use Rattle.bpf_object.proofs.CanonValid.{section_of, symbol_of, relocation_of, nothing, no_symbol, no_relocation, kind_of_section, IsDataOf, IsValidData, IsValidTable, IsPlacedIn, ValidObject, IsSmall}
-use Rattle.bpf_object.proofs.CanonNames.{name_table, name_place, file_name_reads, symbol_name_there}
+use Rattle.bpf_object.proofs.CanonNames.{name_table, new_name_offset, file_name_reads, symbol_name_there}
 use Rattle.bpf_object.proofs.CanonRows.{section_rows, row_count, canonical_is, symtab_row, kept_row, own_kind, own_count, row_count_is, strtab_is, own_not_data, own_not_table}
 use Rattle.bpf_object.proofs.CanonFields.{is_writable, table_bits}
 use Rattle.bpf_object.proofs.CanonSections.{not_table, IsKept, is_data, is_table as kept_table, own_kind_is, kept_name_is, kept_kind_is, row_is_kept}
@@ -129,7 +129,7 @@ module _ (x : Object) (valid : ValidObject x) (small : IsSmall x) where
 
   -- ---- symbols
 
-  symbol_fields : (j : ℕ) → j < length x.symbols → (let s = symbol_of x j in HasSymbol (canonical x) j (name_place x s.name) s.info s.other s.section s.value s.size)
+  symbol_fields : (j : ℕ) → j < length x.symbols → (let s = symbol_of x j in HasSymbol (canonical x) j (new_name_offset x s.name) s.info s.other s.section s.value s.size)
   symbol_fields j lt =
       symbol_is (canonical x) x.order x.flags (section_rows x) (row_count x) (canonical_is x) (is_writable x small valid) (symtab_row x) (symtab_row x + 1) (symbol_at x)
       (length x.symbols) (are_symbols x valid small) j lt
@@ -151,15 +151,15 @@ module _ (x : Object) (valid : ValidObject x) (small : IsSmall x) where
     | inr other ↦ ap (λ (y : Bool). if y then section else section_number (canonical x) section) other ∙ data_number section its
   ]
 
-  place_of_symbol : (s : KeptSymbol) → (is_special s.section ≡ true) ⊎ IsPlacedIn x s → (is_special s.section ≡ true) ⊎ IsDataOf x s.section
-  place_of_symbol s (inl special) = inl special
-  place_of_symbol s (inr its) = inr its.section
+  offset_of_symbol : (s : KeptSymbol) → (is_special s.section ≡ true) ⊎ IsPlacedIn x s → (is_special s.section ≡ true) ⊎ IsDataOf x s.section
+  offset_of_symbol s (inl special) = inl special
+  offset_of_symbol s (inr its) = inr its.section
 
   symbol_back : (j : ℕ) → j < length x.symbols → kept_symbol (canonical x) j ≡ symbol_of x j
   symbol_back j lt =
       let its = symbol_fields j lt in
       same_symbol (kept_symbol (canonical x) j) (symbol_of x j) (symbol_name_back j lt) its.info_is its.other_is
-      (ap (λ (i : ℕ). symbol_section (canonical x) i) its.shndx_is ∙ section_back (symbol_of x j).section (place_of_symbol (symbol_of x j) (valid.symbols j lt).place))
+      (ap (λ (i : ℕ). symbol_section (canonical x) i) its.shndx_is ∙ section_back (symbol_of x j).section (offset_of_symbol (symbol_of x j) (valid.symbols j lt).place))
       its.value_is its.size_is
 
   pub symbols_back : kept_symbols (canonical x) ≡ x.symbols
@@ -206,7 +206,7 @@ module _ (x : Object) (valid : ValidObject x) (small : IsSmall x) where
 
   -- ---- sections
 
-  header_back : (i : ℕ) → i < length x.sections → HasHeader (canonical x) (i + 1) (section_rows x i) (content_place (section_rows x) i)
+  header_back : (i : ℕ) → i < length x.sections → HasHeader (canonical x) (i + 1) (section_rows x i) (content_offset (section_rows x) i)
   header_back i lt =
       has_header (canonical x) x.order x.flags (section_rows x) (row_count x) (canonical_is x) (is_writable x small valid) i (omega (arith, lt, row_count_is x))
 

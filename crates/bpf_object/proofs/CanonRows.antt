@@ -11,10 +11,10 @@ use Rattle.btf_raw.specs.Names.{IsWithoutNul}
 use Rattle.bpf_object.specs.File.{WrittenSection, file_of}
 use Rattle.bpf_object.specs.WrittenSections.{no_section}
 use Rattle.bpf_object.specs.Objects.{ObjectTypes, Object}
-use Rattle.bpf_object.specs.Canonical.{place_of, has_extension, types_names, file_strings, symbol_bytes, first_global, btf_bytes, extension_bytes, types_strings, written_section, own_section, types_sections, symtab_number, last_sections, written_sections, canonical}
+use Rattle.bpf_object.specs.Canonical.{offset_of, has_extension, types_names, file_strings, symbol_bytes, first_global, btf_bytes, extension_bytes, types_strings, written_section, own_section, types_sections, symtab_number, last_sections, written_sections, canonical}
 use Rattle.btf_types.proofs.Members.{Has}
 use Rattle.bpf_object.proofs.CanonValid.{section_of, nothing}
-use Rattle.bpf_object.proofs.CanonNames.{name_table, name_place, IsNameOf, types_name_there, symtab_name_there, strtab_name_there}
+use Rattle.bpf_object.proofs.CanonNames.{name_table, new_name_offset, IsNameOf, types_name_there, symtab_name_there, strtab_name_there}
 
 -- ---- all sections, by their numbers from 0
 
@@ -33,24 +33,24 @@ abbrev pub symtab_row : Object → ℕ
 symtab_row x = length x.sections + length (types_names x.types)
 
 abbrev kept_rows : Object → List WrittenSection
-kept_rows x = map (written_section x.order (place_of (file_strings x)) (symtab_number x)) x.sections
+kept_rows x = map (written_section x.order (offset_of (file_strings x)) (symtab_number x)) x.sections
 
 abbrev own_rows : Object → List WrittenSection
-own_rows x = types_sections x.order (place_of (file_strings x)) x.types ++ last_sections x
+own_rows x = types_sections x.order (offset_of (file_strings x)) x.types ++ last_sections x
 
 -- a section that is kept
 pub kept_row : (x : Object) (i : ℕ) → i < length x.sections
-    → section_rows x i ≡ written_section x.order (name_place x) (symtab_number x) (section_of x i)
-unfolding section_rows name_place
+    → section_rows x i ≡ written_section x.order (new_name_offset x) (symtab_number x) (section_of x i)
+unfolding section_rows new_name_offset
 kept_row x i lt =
-    get_or_append_left (kept_rows x) (own_rows x) no_section i (rw (length-map x.sections (written_section x.order (place_of (file_strings x)) (symtab_number x))) lt)
-    ∙ get_or-map (written_section x.order (place_of (file_strings x)) (symtab_number x)) x.sections i nothing no_section lt
+    get_or_append_left (kept_rows x) (own_rows x) no_section i (rw (length-map x.sections (written_section x.order (offset_of (file_strings x)) (symtab_number x))) lt)
+    ∙ get_or-map (written_section x.order (offset_of (file_strings x)) (symtab_number x)) x.sections i nothing no_section lt
 
 -- one that is written anew
 own_row : (x : Object) (k : ℕ) → section_rows x (length x.sections + k) ≡ get_or (own_rows x) k no_section
 unfolding section_rows
 own_row x k =
-    ap (λ (n : ℕ). get_or (kept_rows x ++ own_rows x) (n + k) no_section) (sym (length-map x.sections (written_section x.order (place_of (file_strings x)) (symtab_number x))))
+    ap (λ (n : ℕ). get_or (kept_rows x ++ own_rows x) (n + k) no_section) (sym (length-map x.sections (written_section x.order (offset_of (file_strings x)) (symtab_number x))))
     ∙ get_or-append-add (kept_rows x) (own_rows x) k no_section
 
 -- ---- the sections that are written anew
@@ -79,7 +79,7 @@ pub record IsOwnRow (x : Object) (w : WrittenSection) (name : List ℕ) (kind : 
   pub there : IsNameOf x name
   pub without_nul : IsWithoutNul name
   pub name_short : length name ≤ 1024
-  pub name_offset : w.name_offset ≡ name_place x name
+  pub name_offset : w.name_offset ≡ new_name_offset x name
   pub kind_is : kind_of w.type name w.flags ≡ Some kind
   pub type : w.type ≤ 3
   pub flags : w.flags ≡ 0
@@ -120,7 +120,7 @@ without_nul_test (suc c ∷ cs) all (suc i) lt e = without_nul_test cs (and_part
 
 own_row_from : (x : Object) (name content : List ℕ) (kind : Kind) (type link info alignment entry_size : ℕ) → IsNameOf x name → list_all (λ c. not (c == 0)) name ≡ true
     → length name ≤ 1024 → kind_of type name 0 ≡ Some kind → type ≤ 3 → link ≤ symtab_number x + 1 → info ≤ first_global x.symbols → alignment ≤ 8 → entry_size ≤ 24
-    → IsOwnRow x (own_section (name_place x name) type content link info alignment entry_size) name kind
+    → IsOwnRow x (own_section (new_name_offset x name) type content link info alignment entry_size) name kind
 own_row_from x name content kind type link info alignment entry_size there none short is low linked within aligned sized = record {
   there = there;
   without_nul = without_nul_test name none;
@@ -139,17 +139,17 @@ own_row_from x name content kind type link info alignment entry_size there none 
 
 -- .BTF and .BTF.ext
 types_row : (x : Object) (name content : List ℕ) (kind : Kind) → IsNameOf x name → list_all (λ c. not (c == 0)) name ≡ true → length name ≤ 1024
-    → kind_of 1 name 0 ≡ Some kind → IsOwnRow x (own_section (name_place x name) 1 content 0 0 4 0) name kind
+    → kind_of 1 name 0 ≡ Some kind → IsOwnRow x (own_section (new_name_offset x name) 1 content 0 0 4 0) name kind
 types_row x name content kind there none short is =
     own_row_from x name content kind 1 0 0 4 0 there none short is (omega arith) (omega arith) (omega arith) (omega arith) (omega arith)
 
-symtab_own : (x : Object) (content : List ℕ) → IsOwnRow x (own_section (name_place x (codes ".symtab")) SHT_SYMTAB content (symtab_number x + 1) (first_global x.symbols) 8 24) (codes ".symtab") Symbols
+symtab_own : (x : Object) (content : List ℕ) → IsOwnRow x (own_section (new_name_offset x (codes ".symtab")) SHT_SYMTAB content (symtab_number x + 1) (first_global x.symbols) 8 24) (codes ".symtab") Symbols
 unfolding kind_of
 symtab_own x content =
     own_row_from x (codes ".symtab") content Symbols SHT_SYMTAB (symtab_number x + 1) (first_global x.symbols) 8 24 (symtab_name_there x) refl (omega arith) refl
     (omega arith) (omega arith) (omega arith) (omega arith) (omega arith)
 
-strtab_own : (x : Object) (content : List ℕ) → IsOwnRow x (own_section (name_place x (codes ".strtab")) SHT_STRTAB content 0 0 1 0) (codes ".strtab") Dropped
+strtab_own : (x : Object) (content : List ℕ) → IsOwnRow x (own_section (new_name_offset x (codes ".strtab")) SHT_STRTAB content 0 0 1 0) (codes ".strtab") Dropped
 unfolding kind_of
 strtab_own x content =
     own_row_from x (codes ".strtab") content Dropped SHT_STRTAB 0 0 1 0 (strtab_name_there x) refl (omega arith) refl (omega arith) (omega arith) (omega arith)
@@ -165,9 +165,9 @@ extension_kind = refl
 
 -- .BTF.ext, if there is one
 extension_own : (x : Object) (y : Bool) (content : List ℕ) → (y ≡ true → IsNameOf x (codes ".BTF.ext"))
-    → EachOwn x ((if y then own_section (name_place x (codes ".BTF.ext")) 1 content 0 0 4 0 ∷ [] else []) ++ last_sections x)
+    → EachOwn x ((if y then own_section (new_name_offset x (codes ".BTF.ext")) 1 content 0 0 4 0 ∷ [] else []) ++ last_sections x)
     ((if y then codes ".BTF.ext" ∷ [] else []) ++ (codes ".symtab" ∷ codes ".strtab" ∷ [])) ((if y then Extension ∷ [] else []) ++ (Symbols ∷ Dropped ∷ []))
-unfolding name_place
+unfolding new_name_offset
 extension_own x true content there = (types_row x (codes ".BTF.ext") content Extension (there refl) refl (omega arith) extension_kind, (symtab_own x _, (strtab_own x _, tt)))
 extension_own x false content there = (symtab_own x _, (strtab_own x _, tt))
 
@@ -181,16 +181,16 @@ btf_named : (x : Object) (t : ObjectTypes) → x.types ≡ Some t → IsNameOf x
 btf_named x t is = types_name_there x (codes ".BTF") (subst (λ (o : Option ObjectTypes). Has (types_names o) (codes ".BTF")) (sym is) (inl refl))
 
 each_own_of : (x : Object) (o : Option ObjectTypes) → x.types ≡ o
-    → EachOwn x (types_sections x.order (name_place x) o ++ last_sections x) (types_names o ++ (codes ".symtab" ∷ codes ".strtab" ∷ [])) (types_kinds o ++ (Symbols ∷ Dropped ∷ []))
-unfolding name_place
+    → EachOwn x (types_sections x.order (new_name_offset x) o ++ last_sections x) (types_names o ++ (codes ".symtab" ∷ codes ".strtab" ∷ [])) (types_kinds o ++ (Symbols ∷ Dropped ∷ []))
+unfolding new_name_offset
 each_own_of x None is = (symtab_own x _, (strtab_own x _, tt))
 each_own_of x (Some t) is = (
   types_row x (codes ".BTF") (btf_bytes x.order t) Types (btf_named x t is) refl (omega arith) btf_kind,
-  extension_own x (has_extension t) (extension_bytes x.order (place_of (types_strings t)) t) (extension_named x t is),
+  extension_own x (has_extension t) (extension_bytes x.order (offset_of (types_strings t)) t) (extension_named x t is),
 )
 
 each_own : (x : Object) → EachOwn x (own_rows x) (own_names x) (own_kinds x)
-unfolding name_place
+unfolding new_name_offset
 each_own x = each_own_of x x.types refl
 
 -- how many they are
@@ -203,7 +203,7 @@ pub row_count_is : (x : Object) → row_count x ≡ length x.sections + own_coun
 unfolding row_count
 row_count_is x =
     length-append (kept_rows x) (own_rows x)
-    ∙ ap (λ (n : ℕ). n + length (own_rows x)) (length-map x.sections (written_section x.order (place_of (file_strings x)) (symtab_number x)))
+    ∙ ap (λ (n : ℕ). n + length (own_rows x)) (length-map x.sections (written_section x.order (offset_of (file_strings x)) (symtab_number x)))
     ∙ ap (λ (n : ℕ). length x.sections + n) (own_length x)
 
 pub own_row_is : (x : Object) (k : ℕ) → k < own_count x → IsOwnRow x (section_rows x (length x.sections + k)) (own_name x k) (own_kind x k)
@@ -215,21 +215,21 @@ own_row_is x k lt =
 -- ---- the last two
 
 last_row : (x : Object) (k : ℕ) → section_rows x (symtab_row x + k) ≡ get_or (last_sections x) k no_section
-unfolding name_place
+unfolding new_name_offset
 last_row x k =
-    let before = types_sections x.order (name_place x) x.types in
+    let before = types_sections x.order (new_name_offset x) x.types in
     let there : symtab_row x + k ≡ length x.sections + (length before + k) = omega (arith, own_length x, length-append before (last_sections x)) in
     ap (section_rows x) there ∙ own_row x (length before + k) ∙ get_or-append-add before (last_sections x) k no_section
 
 -- the symbols
 pub symtab_is : (x : Object) → section_rows x (symtab_row x)
-    ≡ own_section (name_place x (codes ".symtab")) SHT_SYMTAB (flat_map (symbol_bytes x.order (name_place x)) x.symbols) (symtab_number x + 1) (first_global x.symbols) 8 24
-unfolding name_place
+    ≡ own_section (new_name_offset x (codes ".symtab")) SHT_SYMTAB (flat_map (symbol_bytes x.order (new_name_offset x)) x.symbols) (symtab_number x + 1) (first_global x.symbols) 8 24
+unfolding new_name_offset
 symtab_is x = ap (section_rows x) (omega arith) ∙ last_row x 0
 
 -- the strings
-pub strtab_is : (x : Object) → section_rows x (symtab_row x + 1) ≡ own_section (name_place x (codes ".strtab")) SHT_STRTAB (name_table x) 0 0 1 0
-unfolding name_place name_table
+pub strtab_is : (x : Object) → section_rows x (symtab_row x + 1) ≡ own_section (new_name_offset x (codes ".strtab")) SHT_STRTAB (name_table x) 0 0 1 0
+unfolding new_name_offset name_table
 strtab_is x = last_row x 1
 
 -- ---- their kinds
@@ -344,7 +344,7 @@ types_kind x t is = ap (λ (o : Option ObjectTypes). get_or (types_kinds o ++ (S
 pub types_content : (x : Object) (t : ObjectTypes) → x.types ≡ Some t → (section_rows x (length x.sections + 0)).content ≡ btf_bytes x.order t
 types_content x t is =
     ap (λ (w : WrittenSection). w.content) (own_row x 0)
-    ∙ ap (λ (o : Option ObjectTypes). (get_or (types_sections x.order (place_of (file_strings x)) o ++ last_sections x) 0 no_section).content) is
+    ∙ ap (λ (o : Option ObjectTypes). (get_or (types_sections x.order (offset_of (file_strings x)) o ++ last_sections x) 0 no_section).content) is
 
 -- .BTF.ext is the next one
 pub extension_kind_is : (x : Object) (t : ObjectTypes) → x.types ≡ Some t → has_extension t ≡ true → own_kind x 1 ≡ Extension
@@ -354,10 +354,10 @@ extension_kind_is x t is has =
     ∙ ap (λ (y : Bool). get_or (Types ∷ ((if y then Extension ∷ [] else []) ++ (Symbols ∷ Dropped ∷ []))) 1 Dropped) has
 
 pub extension_content : (x : Object) (t : ObjectTypes) → x.types ≡ Some t → has_extension t ≡ true
-    → (section_rows x (length x.sections + 1)).content ≡ extension_bytes x.order (place_of (types_strings t)) t
+    → (section_rows x (length x.sections + 1)).content ≡ extension_bytes x.order (offset_of (types_strings t)) t
 extension_content x t is has =
-    let bytes = extension_bytes x.order (place_of (types_strings t)) t in
-    let place = place_of (file_strings x) in
+    let bytes = extension_bytes x.order (offset_of (types_strings t)) t in
+    let place = offset_of (file_strings x) in
     ap (λ (w : WrittenSection). w.content) (own_row x 1)
     ∙ ap (λ (o : Option ObjectTypes). (get_or (types_sections x.order place o ++ last_sections x) 1 no_section).content) is
     ∙ ap (λ (y : Bool). (get_or (own_section (place (codes ".BTF")) 1 (btf_bytes x.order t) 0 0 4 0

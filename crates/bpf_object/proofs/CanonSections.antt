@@ -17,7 +17,7 @@ use Rattle.bpf_object.proofs.ReadBackTests.{less_test, most_test}
 use Rattle.bpf_object.proofs.ReadBackKinds.{written_name, written_kind, written_section as written_section_of, is_found, is_written_again}
 use Rattle.bpf_object.proofs.ReadBackSectionRules.{AreSections, target_test, is_written_target}
 use Rattle.bpf_object.proofs.CanonValid.{section_of, kind_of_section, IsDataOf, IsValidData, IsValidTable, IsValidSection, ValidObject}
-use Rattle.bpf_object.proofs.CanonNames.{name_table, name_place, name_table_closed, IsNameOf, file_name_reads, file_name_inside, section_name_there}
+use Rattle.bpf_object.proofs.CanonNames.{name_table, new_name_offset, name_table_closed, IsNameOf, file_name_reads, file_name_inside, section_name_there}
 use Rattle.bpf_object.proofs.CanonRows.{section_rows, row_count, symtab_row, kept_row, own_name, own_kind, own_count, IsOwnRow, row_count_is, own_row_is, strtab_is, own_apart, own_not_data, own_not_table}
 use Rattle.bpf_object.proofs.CanonFields.{split_row}
 
@@ -110,11 +110,11 @@ pub record IsShortName (x : Object) (name : List ℕ) : Type 0 where
   pub without_nul : IsWithoutNul name
   pub short : length name ≤ 1024
 
-section_name_test : (x : Object) (name : List ℕ) → IsShortName x name → is_section_name (name_table x) (name_place x name) ≡ true
+section_name_test : (x : Object) (name : List ℕ) → IsShortName x name → is_section_name (name_table x) (new_name_offset x name) ≡ true
 section_name_test x name its =
     let reads = file_name_reads x name its.there its.without_nul in
-    and_from (nat_lt (name_place x name) (length (name_table x))) (nat_le (length (string_at (name_table x) (name_place x name))) NAME_LIMIT)
-    (less_test (name_place x name) (length (name_table x)) (file_name_inside x name its.there its.without_nul))
+    and_from (nat_lt (new_name_offset x name) (length (name_table x))) (nat_le (length (string_at (name_table x) (new_name_offset x name))) NAME_LIMIT)
+    (less_test (new_name_offset x name) (length (name_table x)) (file_name_inside x name its.there its.without_nul))
     (ap (λ (t : List ℕ). nat_le (length t) NAME_LIMIT) reads ∙ most_test (length name) NAME_LIMIT its.short)
 
 last_is : (x : Object) → row_count x - 1 ≡ symtab_row x + 1
@@ -127,13 +127,13 @@ last_type : (x : Object) → (section_rows x (row_count x - 1)).type ≡ SHT_STR
 last_type x = ap (λ (i : ℕ). (section_rows x i).type) (last_is x) ∙ ap (λ (w : WrittenSection). w.type) (strtab_is x)
 
 -- the name of a section
-row_name : (x : Object) (i : ℕ) (name : List ℕ) → IsShortName x name → (section_rows x i).name_offset ≡ name_place x name
+row_name : (x : Object) (i : ℕ) (name : List ℕ) → IsShortName x name → (section_rows x i).name_offset ≡ new_name_offset x name
     → written_name (section_rows x) (row_count x) (suc i) ≡ name
 row_name x i name its at =
     ap (λ (t : List ℕ). string_at t (section_rows x i).name_offset) (last_content x) ∙ ap (λ (k : ℕ). string_at (name_table x) k) at
     ∙ file_name_reads x name its.there its.without_nul
 
-row_named : (x : Object) (i : ℕ) (name : List ℕ) → IsShortName x name → (section_rows x i).name_offset ≡ name_place x name
+row_named : (x : Object) (i : ℕ) (name : List ℕ) → IsShortName x name → (section_rows x i).name_offset ≡ new_name_offset x name
     → is_section_name (section_rows x (row_count x - 1)).content (section_rows x i).name_offset ≡ true
 row_named x i name its at =
     ap (λ (t : List ℕ). is_section_name t (section_rows x i).name_offset) (last_content x) ∙ ap (λ (k : ℕ). is_section_name (name_table x) k) at
@@ -168,7 +168,7 @@ module _ (x : Object) (k : ℕ) (lt : k < own_count x) where
 -- ---- the sections that are kept
 
 module _ (x : Object) (valid : ValidObject x) (i : ℕ) (lt : i < length x.sections) where
-  kept : section_rows x i ≡ written_section x.order (name_place x) (symtab_number x) (section_of x i)
+  kept : section_rows x i ≡ written_section x.order (new_name_offset x) (symtab_number x) (section_of x i)
   kept = kept_row x i lt
 
   kept_short : IsShortName x (section_of x i).name

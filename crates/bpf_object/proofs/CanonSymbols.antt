@@ -20,7 +20,7 @@ use Rattle.bpf_object.proofs.ReadBackKinds.{written_kind}
 use Rattle.bpf_object.proofs.ReadBackSymbols.{WrittenSymbol, SymbolFits, AreSymbols, row_of, written_size, is_written_data, has_written_section, is_written_within}
 use Rattle.bpf_object.proofs.ReadBackRelocations.{WrittenRelocation, AreRelocations, is_written_kept, elf_holds}
 use Rattle.bpf_object.proofs.CanonValid.{section_of, symbol_of, kind_of_section, relocation_of, no_symbol, no_relocation, IsDataOf, IsValidData, IsValidTable, IsPlacedIn, ValidObject, IsSmall}
-use Rattle.bpf_object.proofs.CanonNames.{name_place, name_table_closed, empty_name_place, file_name_inside, symbol_name_there}
+use Rattle.bpf_object.proofs.CanonNames.{new_name_offset, name_table_closed, empty_name_offset, file_name_inside, symbol_name_there}
 use Rattle.bpf_object.proofs.CanonRows.{section_rows, row_count, canonical_is, symtab_row, kept_row, row_count_is, symtab_is, strtab_is, symtab_kind, own_not_table}
 use Rattle.bpf_object.proofs.CanonFields.{split_row, table_short, symbols_short, is_writable}
 use Rattle.bpf_object.proofs.CanonSections.{not_both, own_kind_is, kept_kind_is, own_found, data_row_there, are_sections}
@@ -29,7 +29,7 @@ use Rattle.bpf_object.proofs.CanonSections.{not_both, own_kind_is, kept_kind_is,
 
 abbrev pub symbol_row_of : Object → KeptSymbol → WrittenSymbol
 symbol_row_of x s = record {
-  name_offset = name_place x s.name;
+  name_offset = new_name_offset x s.name;
   info = s.info;
   other = s.other;
   section = s.section;
@@ -42,7 +42,7 @@ symbol_at x j = symbol_row_of x (symbol_of x j)
 
 first_symbol : (x : Object) (s : KeptSymbol) → s ≡ no_symbol → row_of x.order (symbol_row_of x s) ≡ replicate 24 0
 first_symbol x s is =
-    ap (λ (t : KeptSymbol). row_of x.order (symbol_row_of x t)) is ∙ zeros x.order (name_place x []) (empty_name_place x)
+    ap (λ (t : KeptSymbol). row_of x.order (symbol_row_of x t)) is ∙ zeros x.order (new_name_offset x []) (empty_name_offset x)
   where
     zeros : (o : Order) (p : ℕ) → p ≡ 0 → row_of o (record { name_offset = p; info = 0; other = 0; section = 0; value = 0; size = 0 }) ≡ replicate 24 0
     zeros Little p e = rw e refl
@@ -62,7 +62,7 @@ module _ (x : Object) (valid : ValidObject x) (small : IsSmall x) where
         size = its.size;
       }
 
-  symbol_named : (j : ℕ) → j < length x.symbols → name_place x (symbol_of x j).name < length (section_rows x (symtab_row x + 1)).content
+  symbol_named : (j : ℕ) → j < length x.symbols → new_name_offset x (symbol_of x j).name < length (section_rows x (symtab_row x + 1)).content
   symbol_named j lt =
       omega (arith, file_name_inside x (symbol_of x j).name (symbol_name_there x j lt) (valid.symbols j lt).name, ap (λ (w : WrittenSection). length w.content) (strtab_is x))
 
@@ -110,7 +110,7 @@ module _ (x : Object) (valid : ValidObject x) (small : IsSmall x) where
       let count = row_count_is x in
       record {
         section = own_found x valid (length (types_names x.types)) (omega arith) Symbols (symtab_kind x);
-        table = ap (λ (w : WrittenSection). w.content) (symtab_is x) ∙ flat_map_rows (symbol_bytes x.order (name_place x)) x.symbols no_symbol;
+        table = ap (λ (w : WrittenSection). w.content) (symtab_is x) ∙ flat_map_rows (symbol_bytes x.order (new_name_offset x)) x.symbols no_symbol;
         entry_size = ap (λ (w : WrittenSection). w.entry_size) (symtab_is x);
         link = ap (λ (w : WrittenSection). w.link) (symtab_is x) ∙ omega arith;
         names_below = omega (arith, count);

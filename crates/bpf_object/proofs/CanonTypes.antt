@@ -5,7 +5,7 @@ use Rattle.bpf_elf.specs.declared.kinds.Kind.TheVariants.{Types, Extension}
 use Rattle.bpf_elf.specs.Numbers as number
 use Rattle.bpf_elf.specs.Sections.{content, section_of}
 use Rattle.bpf_object.specs.Objects.{ObjectTypes, Object}
-use Rattle.bpf_object.specs.Canonical.{place_of, has_extension, types_strings, btf_bytes, extension_bytes, canonical}
+use Rattle.bpf_object.specs.Canonical.{offset_of, has_extension, types_strings, btf_bytes, extension_bytes, canonical}
 use Rattle.bpf_object.proofs.ReadBackSections.{content_is}
 use Rattle.bpf_object.proofs.ReadBackKinds.{written_section, next, section_of_is}
 use Rattle.bpf_object.proofs.CanonValid.{ValidObject, IsSmall}
@@ -48,9 +48,9 @@ module _ (x : Object) (valid : ValidObject x) (small : IsSmall x) where
 
   -- .BTF.ext
   pub extension_back : (t : ObjectTypes) → x.types ≡ Some t → has_extension t ≡ true
-      → HasSectionOf (canonical x) Extension (extension_bytes x.order (place_of (types_strings t)) t)
+      → HasSectionOf (canonical x) Extension (extension_bytes x.order (offset_of (types_strings t)) t)
   extension_back t is has =
-      own_section_back 1 (omega (arith, extension_below x t is has)) Extension (extension_kind_is x t is has) (extension_bytes x.order (place_of (types_strings t)) t)
+      own_section_back 1 (omega (arith, extension_below x t is has)) Extension (extension_kind_is x t is has) (extension_bytes x.order (offset_of (types_strings t)) t)
       (extension_content x t is has)
 
   pub no_extension_back : x.types ≡ None → section_of (canonical x) Extension (number.count (canonical x)) ≡ 0

@@ -3,7 +3,7 @@ use Rattle.std.proofs.Common.{◌≡◌, ℕ, ◌+◌, ◌&&◌, Bool, true, fal
 use Rattle.std.specs.Prelude.{codes, nat_lt, nat_le, slice_index_or}
 use Rattle.bpf_elf.specs.{Header.FILE_LIMIT, Header.SHN_LORESERVE, Numbers.order_of, Numbers.flags_of}
 use Rattle.bpf_words.specs.declared.Order.{Order}
-use Rattle.bpf_object.specs.Canonical.{place_of, written_section, types_names, types_sections, written_sections, has_extension, canonical}
+use Rattle.bpf_object.specs.Canonical.{offset_of, written_section, types_names, types_sections, written_sections, has_extension, canonical}
 use Rattle.bpf_object.specs.Denotes.{object_of, types_fit, is_small}
 use Rattle.bpf_object.specs.File.{WrittenSection, file_of}
 use Rattle.bpf_object.specs.FileWith.{btf_content, extension_content, names_with, section_with, last_with, sections_with, file_with, fits_with}
@@ -17,7 +17,7 @@ strings_of_names b names = map (λ s. s.name) (kept_sections b) ++ names ++ (cod
 
 composed : List ℕ → List (List ℕ) → List WrittenSection → List WrittenSection
 composed b names sections =
-    map (written_section (order_of b) (place_of (strings_of_names b names)) (1 + length (kept_sections b) + length names)) (kept_sections b)
+    map (written_section (order_of b) (offset_of (strings_of_names b names)) (1 + length (kept_sections b) + length names)) (kept_sections b)
     ++ (sections ++ last_with b (strings_of_names b names) (1 + length (kept_sections b) + length names))
 
 both_with : (List ℕ → ℕ) → Option (List ℕ) → Option (List ℕ) → List WrittenSection
@@ -44,12 +44,12 @@ sections_same o place None = refl
 sections_same o place (Some t) = sections_in o place t (has_extension t) refl
 
 as_written : (b : List ℕ) (t : Option ObjectTypes)
-    → written_sections (object_of b t) ≡ composed b (types_names t) (types_sections (order_of b) (place_of (strings_of_names b (types_names t))) t)
+    → written_sections (object_of b t) ≡ composed b (types_names t) (types_sections (order_of b) (offset_of (strings_of_names b (types_names t))) t)
 unfolding composed strings_of_names
 as_written b t = refl
 
 as_with : (b : List ℕ) (types extension : Option (List ℕ))
-    → composed b (names_with types extension) (both_with (place_of (strings_of_names b (names_with types extension))) types extension)
+    → composed b (names_with types extension) (both_with (offset_of (strings_of_names b (names_with types extension))) types extension)
     ≡ sections_with b types extension
 unfolding composed strings_of_names both_with
 as_with b types extension = refl
@@ -60,8 +60,8 @@ sections_are b t =
     let types = btf_content (order_of b) t in
     let extension = extension_content (order_of b) t in
     as_written b t
-    ∙ ap (composed b (types_names t)) (sections_same (order_of b) (place_of (strings_of_names b (types_names t))) t)
-    ∙ ap (λ (ns : List (List ℕ)). composed b ns (both_with (place_of (strings_of_names b ns)) types extension)) (names_same (order_of b) t)
+    ∙ ap (composed b (types_names t)) (sections_same (order_of b) (offset_of (strings_of_names b (types_names t))) t)
+    ∙ ap (λ (ns : List (List ℕ)). composed b ns (both_with (offset_of (strings_of_names b ns)) types extension)) (names_same (order_of b) t)
     ∙ as_with b types extension
 
 -- ---- the file, and whether it is small

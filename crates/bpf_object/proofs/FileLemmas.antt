@@ -5,22 +5,22 @@ use Rattle.std.proofs.lemmas.List.{get_or-map}
 use Rattle.bpf_words.specs.declared.Order.{Order}
 use Rattle.bpf_object.specs.declared.file.WrittenSection.{WrittenSection as Written}
 use Rattle.bpf_object.specs.WrittenSections.{section_value, section_at, no_section}
-use Rattle.bpf_object.specs.File.{WrittenSection, contents, content_place, padding, section_header, section_headers}
+use Rattle.bpf_object.specs.File.{WrittenSection, contents, content_offset, padding, section_header, section_headers}
 
--- the place of the next content
-pub place_next : (s : ℕ → WrittenSection) (k : ℕ) → content_place s (suc k) ≡ content_place s k + (length (s k).content + length (padding (length (s k).content)))
-place_next s k =
+-- the offset of the next content
+pub offset_next : (s : ℕ → WrittenSection) (k : ℕ) → content_offset s (suc k) ≡ content_offset s k + (length (s k).content + length (padding (length (s k).content)))
+offset_next s k =
     let outer = length-append (contents s k) ((s k).content ++ padding (length (s k).content)) in
     let inner = length-append (s k).content (padding (length (s k).content)) in
     omega (arith, outer, inner)
 
 -- places grow
-pub place_grows : (s : ℕ → WrittenSection) (k n : ℕ) → k ≤ n → content_place s k ≤ content_place s n
-place_grows s k zero le = let same : k ≡ zero = omega arith in subst (λ (m : ℕ). content_place s k ≤ content_place s m) same (omega arith)
-place_grows s k (suc n) le =
+pub offset_grows : (s : ℕ → WrittenSection) (k n : ℕ) → k ≤ n → content_offset s k ≤ content_offset s n
+offset_grows s k zero le = let same : k ≡ zero = omega arith in subst (λ (m : ℕ). content_offset s k ≤ content_offset s m) same (omega arith)
+offset_grows s k (suc n) le =
     elim (cases_lt n k) [
-      | inl above ↦ let same : k ≡ suc n = omega arith in subst (λ (m : ℕ). content_place s k ≤ content_place s m) same (omega arith)
-      | inr below ↦ let before = place_grows s k n below in let next = place_next s n in omega (arith, before, next)
+      | inl above ↦ let same : k ≡ suc n = omega arith in subst (λ (m : ℕ). content_offset s k ≤ content_offset s m) same (omega arith)
+      | inr below ↦ let before = offset_grows s k n below in let next = offset_next s n in omega (arith, before, next)
     ]
 
 -- the element that a list has past its end
@@ -43,31 +43,31 @@ abbrev content_at : List Written → ℕ → Written → List ℕ
 content_at xs k d = (get_or xs k d).content.now
 
 pub next_of : (xs : List Written) (k : ℕ) (d : Written) → k < length xs
-    → content_place (section_at xs) (k + 1)
-    ≡ content_place (section_at xs) k + (length (content_at xs k d) + length (padding (length (content_at xs k d))))
+    → content_offset (section_at xs) (k + 1)
+    ≡ content_offset (section_at xs) k + (length (content_at xs k d) + length (padding (length (content_at xs k d))))
 next_of xs k d lt =
     let at : section_at xs k ≡ section_value (get_or xs k d) = get_or-map section_value xs k d no_section lt in
-    rw add-one (place_next (section_at xs) k ∙ ap (λ (s : WrittenSection). content_place (section_at xs) k + (length s.content + length (padding (length s.content)))) at)
+    rw add-one (offset_next (section_at xs) k ∙ ap (λ (s : WrittenSection). content_offset (section_at xs) k + (length s.content + length (padding (length s.content)))) at)
 
 -- what is written before the last content ends is no longer than all
-pub within : (xs : List Written) (k limit : ℕ) (d : Written) → k < length xs → content_place (section_at xs) (length xs) < limit
-    → content_place (section_at xs) k + (length (content_at xs k d) + length (padding (length (content_at xs k d)))) < limit
+pub within : (xs : List Written) (k limit : ℕ) (d : Written) → k < length xs → content_offset (section_at xs) (length xs) < limit
+    → content_offset (section_at xs) k + (length (content_at xs k d) + length (padding (length (content_at xs k d)))) < limit
 within xs k limit d lt small =
     let next = next_of xs k d lt in
-    let grows = place_grows (section_at xs) (k + 1) (length xs) (omega (arith, lt)) in
+    let grows = offset_grows (section_at xs) (k + 1) (length xs) (omega (arith, lt)) in
     omega (arith, next, grows, small)
 
-pub content_small : (xs : List Written) (k limit : ℕ) (d : Written) → k < length xs → content_place (section_at xs) (length xs) < limit
+pub content_small : (xs : List Written) (k limit : ℕ) (d : Written) → k < length xs → content_offset (section_at xs) (length xs) < limit
     → length (content_at xs k d) < limit
 content_small xs k limit d lt small = let all = within xs k limit d lt small in omega (arith, all)
 
 -- the headers with one more
 pub headers_next : (o : Order) (xs : List Written) (k offset : ℕ) (d : Written) (start out new : List ℕ) → k < length xs
-    → out ≡ start ++ section_headers o (section_at xs) k → offset ≡ content_place (section_at xs) k
+    → out ≡ start ++ section_headers o (section_at xs) k → offset ≡ content_offset (section_at xs) k
     → new ≡ out ++ section_header o (section_value (get_or xs k d)) offset → new ≡ start ++ section_headers o (section_at xs) (k + 1)
 headers_next o xs k offset d start out new lt before at pushed =
     let here : section_at xs k ≡ section_value (get_or xs k d) = get_or-map section_value xs k d no_section lt in
-    let header : section_header o (section_value (get_or xs k d)) offset ≡ section_header o (section_at xs k) (content_place (section_at xs) k) =
+    let header : section_header o (section_value (get_or xs k d)) offset ≡ section_header o (section_at xs k) (content_offset (section_at xs) k) =
     rw (at, here) refl in
     rw add-one
     (pushed ∙ ap (λ (t : List ℕ). t ++ section_header o (section_value (get_or xs k d)) offset) before

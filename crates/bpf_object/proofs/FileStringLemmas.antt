@@ -11,7 +11,7 @@ use Rattle.bpf_elf.specs.Sections.{content}
 use Rattle.bpf_elf.specs.Symbols.{symbols, symbol_count, symbol_strings, has_one_string_table, is_kept_symbol}
 use Rattle.btf_types.specs.Reading.{before_nul, text_from}
 use Rattle.btf_types.proofs.TableLemmas.TextSteps.{text_there}
-use Rattle.bpf_canon.specs.btf.strings.{NamesByPlace.NamesByPlace, NamesByPlace.placed_texts, DistinctNames.distinct_place}
+use Rattle.bpf_canon.specs.btf.strings.{NamesByOffset.NamesByOffset, NamesByOffset.placed_texts, DistinctNames.distinct_offset}
 use Rattle.bpf_object.specs.declared.file_strings.OwnSection.{OwnSection}
 use Rattle.bpf_object.specs.declared.file_strings.OwnSection.TheVariants.{Types, Extension, Symbols, Strings}
 use Rattle.bpf_object.specs.FileStrings.{HasFileStrings, HasOwnStrings, file_offsets, section_offsets, types_offsets, own_offsets, symbol_offsets, symbol_off, section_strings, other_strings, all_strings, own_strings, symbols_at, own_at, own_off, own_name}
@@ -102,11 +102,11 @@ own_text b own =
     ap (text_from (all_strings b)) at ∙ text_after (section_strings b) (other_strings b ++ own_strings) (length (other_strings b) + own_off own)
     ∙ text_after (other_strings b) own_strings (own_off own) ∙ own_read own
 
--- the place of a string that is noted by its offset
-pub place_is : (names : NamesByPlace) (strings x : List ℕ) (off place : ℕ) → names.strings ≡ strings
-    → place ≡ distinct_place (placed_texts names) (text_from names.strings off) → text_from strings off ≡ x → place ≡ placed names x
+-- the offset of a string that is noted by its offset
+pub place_is : (names : NamesByOffset) (strings x : List ℕ) (off place : ℕ) → names.strings ≡ strings
+    → place ≡ distinct_offset (placed_texts names) (text_from names.strings off) → text_from strings off ≡ x → place ≡ placed names x
 place_is names strings x off place same is text =
-    is ∙ ap (λ (s : List ℕ). distinct_place (placed_texts names) (text_from s off)) same ∙ ap (distinct_place (placed_texts names)) text
+    is ∙ ap (λ (s : List ℕ). distinct_offset (placed_texts names) (text_from s off)) same ∙ ap (distinct_offset (placed_texts names)) text
 
 -- three lists, one after the other
 pub three_appended : (start one two three x y z s t : List ℕ) → start ≡ [] → one ≡ start ++ x → two ≡ one ++ y → three ≡ two ++ z → x ≡ s → y ≡ t
@@ -127,20 +127,20 @@ each_passing P test f (suc n) k each lt is =
           subst (λ (i : ℕ). P (f i)) same (All-head P (f n) [] last)
     ]
 
-all_there : (b : List ℕ) (names : NamesByPlace) (has : HasFileStrings b names)
+all_there : (b : List ℕ) (names : NamesByOffset) (has : HasFileStrings b names)
     → All (Contains names.offsets) (file_offsets b has.has_types has.has_extension)
 all_there b names has =
     subst (λ (l : List ℕ). All (Contains l) (file_offsets b has.has_types has.has_extension)) (sym has.offsets)
     (each_noted (file_offsets b has.has_types has.has_extension))
 
-pub section_noted : (b : List ℕ) (names : NamesByPlace) (i : ℕ) → HasFileStrings b names → i < count b → is_kept_section b i ≡ true
+pub section_noted : (b : List ℕ) (names : NamesByOffset) (i : ℕ) → HasFileStrings b names → i < count b → is_kept_section b i ≡ true
     → Contains names.offsets (name_off b i)
 section_noted b names i has lt is =
     let rest = own_offsets b has.has_types has.has_extension ++ symbol_offsets b in
     each_passing (Contains names.offsets) (is_kept_section b) (name_off b) (count b) i
     (All-front (Contains names.offsets) (section_offsets b) rest (all_there b names has)) lt is
 
-pub symbol_noted : (b : List ℕ) (names : NamesByPlace) (j : ℕ) → HasFileStrings b names → j < symbol_count b → is_kept_symbol b j ≡ true
+pub symbol_noted : (b : List ℕ) (names : NamesByOffset) (j : ℕ) → HasFileStrings b names → j < symbol_count b → is_kept_symbol b j ≡ true
     → Contains names.offsets (symbol_off b j)
 symbol_noted b names j has lt is =
     let own = own_offsets b has.has_types has.has_extension in
@@ -152,7 +152,7 @@ pub both_noted : (start one two xs ys : List ℕ) → one ≡ noted_all start xs
 both_noted start one two xs ys h k = k ∙ ap (λ (t : List ℕ). noted_all t ys) h ∙ sym (noted_all-append start xs ys)
 
 -- the names of .symtab and .strtab
-pub own_noted : (b : List ℕ) (names : NamesByPlace) → HasFileStrings b names
+pub own_noted : (b : List ℕ) (names : NamesByOffset) → HasFileStrings b names
     → Contains names.offsets (own_at b + 14) × Contains names.offsets (own_at b + 22)
 own_noted b names has =
     let types = types_offsets b has.has_types has.has_extension in
@@ -164,7 +164,7 @@ own_noted b names has =
     )
 
 -- and those of .BTF and .BTF.ext, if there are any
-types_there : (b : List ℕ) (types extension : Option (List ℕ)) (names : NamesByPlace) → HasOwnStrings b types extension names
+types_there : (b : List ℕ) (types extension : Option (List ℕ)) (names : NamesByOffset) → HasOwnStrings b types extension names
     → All (Contains names.offsets) (types_offsets b (is_some types) (is_some extension))
 types_there b types extension names has =
     let offs = types_offsets b (is_some types) (is_some extension) in
@@ -174,7 +174,7 @@ types_there b types extension names has =
     let rest = All-back (Contains names.offsets) (section_offsets b) (own ++ symbol_offsets b) (all_there b names file) in
     All-front (Contains names.offsets) offs ((own_at b + 14) ∷ (own_at b + 22) ∷ []) (All-front (Contains names.offsets) own (symbol_offsets b) rest)
 
-pub types_noted : (b : List ℕ) (types extension : Option (List ℕ)) (names : NamesByPlace) → HasOwnStrings b types extension names → is_some types ≡ true
+pub types_noted : (b : List ℕ) (types extension : Option (List ℕ)) (names : NamesByOffset) → HasOwnStrings b types extension names → is_some types ≡ true
     → Contains names.offsets (own_at b + 0)
 types_noted b types extension names has is =
     let first : List ℕ = cond (is_some types) ((own_at b + 0) ∷ []) [] in
@@ -182,7 +182,7 @@ types_noted b types extension names has is =
     let one : All (Contains names.offsets) ((own_at b + 0) ∷ []) = rw is at here in
     All-head (Contains names.offsets) (own_at b + 0) [] one
 
-pub extension_noted : (b : List ℕ) (types extension : Option (List ℕ)) (names : NamesByPlace) → HasOwnStrings b types extension names → is_some extension ≡ true
+pub extension_noted : (b : List ℕ) (types extension : Option (List ℕ)) (names : NamesByOffset) → HasOwnStrings b types extension names → is_some extension ≡ true
     → Contains names.offsets (own_at b + 5)
 extension_noted b types extension names has is =
     let first : List ℕ = cond (is_some types) ((own_at b + 0) ∷ []) [] in

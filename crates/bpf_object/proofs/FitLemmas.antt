@@ -9,13 +9,13 @@ use Rattle.std.specs.declared.vec.Vec.{Vec}
 use Rattle.bpf_elf.specs.Header.{FILE_LIMIT}
 use Rattle.btf_raw.specs.Header.{header}
 use Rattle.btf_types.specs.{Sections.SectionWords, Sections.records_in, tables.TableInvariant.IsTable}
-use Rattle.bpf_canon.specs.btf.strings.{NamesByPlace.NamesByPlace, NamesByPlace.placed_texts, DistinctNames.distinct_table}
+use Rattle.bpf_canon.specs.btf.strings.{NamesByOffset.NamesByOffset, NamesByOffset.placed_texts, DistinctNames.distinct_table}
 use Rattle.bpf_canon.specs.btf.write.NameOffsets.{all_offsets}
 use Rattle.bpf_canon.proofs.BtfLemmas.CanonicalEncodes.{All-front, All-back}
 use Rattle.bpf_canon.proofs.BtfLemmas.Write.SectionFiles.{each_noted}
 use Rattle.bpf_object.specs.declared.{extension.Part.Part, source.Source.Source}
 use Rattle.bpf_object.specs.declared.extension.Part.TheVariants.{Functions, Relocations}
-use Rattle.bpf_object.specs.Canonical.{types_bytes, btf_bytes, extension_bytes, place_of, types_strings, has_extension}
+use Rattle.bpf_object.specs.Canonical.{types_bytes, btf_bytes, extension_bytes, offset_of, types_strings, has_extension}
 use Rattle.bpf_object.specs.Denotes.{object_types, both_fit}
 use Rattle.bpf_object.specs.Extension.{Section, groups}
 use Rattle.bpf_object.specs.Groups.{function_group, relocation_group}
@@ -24,7 +24,7 @@ use Rattle.bpf_object.specs.NotedStrings.{HasStrings, placed}
 use Rattle.bpf_object.specs.Sources.{section}
 use Rattle.bpf_object.specs.WrittenGroups.{group_offsets, groups_offsets, written_extension}
 use Rattle.bpf_object.specs.WrittenTypes.{both_offsets, both_names, written_btf, AreWritten}
-use Rattle.bpf_object.proofs.PlaceLemmas.{placed_is, btf_is}
+use Rattle.bpf_object.proofs.OffsetLemmas.{placed_is, btf_is}
 use Rattle.bpf_object.proofs.WrittenExtension.{extension_is}
 
 -- ---- the strings of groups are among the noted ones
@@ -34,16 +34,16 @@ all_in P f [] each = All-nil (λ x. All P (f x))
 all_in P f (x ∷ xs) each =
     All-cons (λ x. All P (f x)) x xs (All-front P (f x) (flat_map f xs) each) (all_in P f xs (All-back P (f x) (flat_map f xs) each))
 
-module _ (s : SectionWords) (x : Source) (names : NamesByPlace) (same : x.strings.now ≡ s.strings) (are : names ≡ both_names s (section x)) where
+module _ (s : SectionWords) (x : Source) (names : NamesByOffset) (same : x.strings.now ≡ s.strings) (are : names ≡ both_names s (section x)) where
   each_there : All (Contains names.offsets) (both_offsets s (section x))
   each_there =
-      subst (λ (n : NamesByPlace). All (Contains n.offsets) (both_offsets s (section x))) (sym are) (each_noted (both_offsets s (section x)))
+      subst (λ (n : NamesByOffset). All (Contains n.offsets) (both_offsets s (section x))) (sym are) (each_noted (both_offsets s (section x)))
 
   pub names_there : All (Contains names.offsets) (all_offsets s.frames)
   names_there = All-front (Contains names.offsets) (all_offsets s.frames) _ each_there
 
   pub strings_are : names.strings ≡ x.strings.now
-  strings_are = ap (λ (n : NamesByPlace). n.strings) are ∙ sym same
+  strings_are = ap (λ (n : NamesByOffset). n.strings) are ∙ sym same
 
   have_strings : (p : Part) (gs : List ℕ) → All (Contains names.offsets) (groups_offsets (section x) p gs) → All (HasStrings names x p) gs
   have_strings p gs each k d lt = record { strings = strings_are; noted = all_in (Contains names.offsets) (group_offsets (section x) p) gs each k d lt }
@@ -77,12 +77,12 @@ at_most a limit le = grind (arith, nat_tests)
 more_than : (a limit : ℕ) → limit < a → nat_le a limit ≡ false
 more_than a limit lt = grind (arith, nat_tests)
 
-module _ (s : SectionWords) (x : Section) (same : s.strings ≡ x.strings) (table : IsTable s) (names : NamesByPlace) (are : names ≡ both_names s x) where
+module _ (s : SectionWords) (x : Section) (same : s.strings ≡ x.strings) (table : IsTable s) (names : NamesByOffset) (are : names ≡ both_names s x) where
   abbrev t : ObjectTypes
   t = object_types s x
 
   abbrev extension : List ℕ
-  extension = extension_bytes x.order (place_of (types_strings t)) t
+  extension = extension_bytes x.order (offset_of (types_strings t)) t
 
   -- .BTF
   same_btf : written_btf x.order s names ≡ btf_bytes x.order t

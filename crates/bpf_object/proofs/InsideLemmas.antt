@@ -11,7 +11,7 @@ use Rattle.bpf_elf.proofs.RuleLemmas.{first_hold, rest_hold, each_holds, head_ho
 use Rattle.bpf_object.specs.declared.{extension.Part.Part, source.Source.Source}
 use Rattle.bpf_object.specs.declared.fault.ObjectCause.TheVariants as cause
 use Rattle.bpf_object.specs.declared.extension.Part.TheVariants.{Functions, Lines, Relocations}
-use Rattle.bpf_object.specs.Extension.{Section, groups, group_name, group_count, record_place}
+use Rattle.bpf_object.specs.Extension.{Section, groups, group_name, group_count, record_offset}
 use Rattle.bpf_object.specs.Groups.{access_off}
 use Rattle.bpf_object.specs.Kept.{listed}
 use Rattle.bpf_object.specs.Lines.{access_rules, accesses_rules}
@@ -47,7 +47,7 @@ name_inside x p g has =
 access_inside : (s : Section) (g k : ℕ) → AllHold (access_rules s g k) → access_off s g k < length s.strings
 access_inside s g k h =
     below (access_off s g k) (length s.strings)
-    (head_holds cause.ExtensionString (s.start + record_place Relocations g k + 8) (nat_lt (access_off s g k) (length s.strings)) [] h).0
+    (head_holds cause.ExtensionString (s.start + record_offset Relocations g k + 8) (nat_lt (access_off s g k) (length s.strings)) [] h).0
 
 group_inside : (x : Source) (g : ℕ) → HasGroup x Relocations g → AllHold (each (group_count (section x) g) (access_rules (section x) g)) → AreInside x Relocations g
 group_inside x g has h =

@@ -7,7 +7,7 @@ pub mod FileLemmas
 pub mod KeptLemmas
 pub mod GroupLists
 pub mod InsideLemmas
-pub mod PlaceLemmas
+pub mod OffsetLemmas
 pub mod WrittenExtension
 pub mod FitLemmas
 pub mod TypesLength

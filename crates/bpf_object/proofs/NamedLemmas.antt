@@ -11,10 +11,10 @@ use Rattle.bpf_elf.specs.Symbols.{symbol_count, symbol_strings, symbol_name, st_
 use Rattle.bpf_elf.specs.Relocations.{relocation_table_rules}
 use Rattle.bpf_elf.proofs.RuleLemmas.{first_hold, rest_hold, each_holds}
 use Rattle.bpf_elf.proofs.KeptFacts.{both}
-use Rattle.btf_types.specs.{Names.kept, Names.place_in, Names.table_of, Reading.text_from}
-use Rattle.bpf_canon.specs.btf.strings.{NamesByPlace.NamesByPlace, NamesByPlace.placed_texts, DistinctNames.distinct_place, DistinctNames.distinct_table}
+use Rattle.btf_types.specs.{Names.kept, Names.offset_within, Names.table_of, Reading.text_from}
+use Rattle.bpf_canon.specs.btf.strings.{NamesByOffset.NamesByOffset, NamesByOffset.placed_texts, DistinctNames.distinct_offset, DistinctNames.distinct_table}
 use Rattle.bpf_canon.proofs.BtfLemmas.Strings.FirstUseSteps.{kept_first_uses}
-use Rattle.bpf_object.specs.{Canonical.place_of, Canonical.strings_of, NotedStrings.placed}
+use Rattle.bpf_object.specs.{Canonical.offset_of, Canonical.strings_of, NotedStrings.placed}
 use Rattle.bpf_object.specs.FileStrings.{HasOwnStrings, section_strings, all_strings, own_at, section_offsets, types_offsets, own_offsets, symbol_off, symbol_offsets, file_offsets}
 use Rattle.bpf_object.specs.FileWith.{name_with, names_with, strings_with}
 use Rattle.bpf_object.specs.Kept.{listed, is_kept_section, kept_section, kept_sections, kept_symbol, kept_symbols}
@@ -130,14 +130,14 @@ module _ (b : List ℕ) (h : IsElf b) where
 
 -- ---- places
 
-pointwise : (xs ys : List (List ℕ)) → kept xs ≡ kept ys → (x : List ℕ) → distinct_place xs x ≡ place_of ys x
+pointwise : (xs ys : List (List ℕ)) → kept xs ≡ kept ys → (x : List ℕ) → distinct_offset xs x ≡ offset_of ys x
 pointwise xs ys same [] = refl
-pointwise xs ys same (c ∷ cs) = ap (λ (ks : List (List ℕ)). place_in ks (c ∷ cs)) same
+pointwise xs ys same (c ∷ cs) = ap (λ (ks : List (List ℕ)). offset_within ks (c ∷ cs)) same
 
-pub places_same : (xs ys : List (List ℕ)) → kept xs ≡ kept ys → distinct_place xs ≡ place_of ys
-places_same xs ys same = λ i. λ x. pointwise xs ys same x i
+pub offsets_same : (xs ys : List (List ℕ)) → kept xs ≡ kept ys → distinct_offset xs ≡ offset_of ys
+offsets_same xs ys same = λ i. λ x. pointwise xs ys same x i
 
-pub kept_strings : (b : List ℕ) (names : NamesByPlace) (types extension : Option (List ℕ)) → IsElf b → HasOwnStrings b types extension names
+pub kept_strings : (b : List ℕ) (names : NamesByOffset) (types extension : Option (List ℕ)) → IsElf b → HasOwnStrings b types extension names
     → kept (placed_texts names) ≡ kept (strings_with b types extension)
 kept_strings b names types extension h has =
     ap (λ (s : List ℕ). kept (map (text_from s) names.offsets)) has.strings
@@ -146,10 +146,10 @@ kept_strings b names types extension h has =
     ∙ ap kept (file_texts b h types extension)
 
 -- the places are those of the definition
-pub places_are : (b : List ℕ) (names : NamesByPlace) (types extension : Option (List ℕ)) → IsElf b → HasOwnStrings b types extension names
-    → placed names ≡ place_of (strings_with b types extension)
-places_are b names types extension h has = places_same (placed_texts names) (strings_with b types extension) (kept_strings b names types extension h has)
+pub offsets_are : (b : List ℕ) (names : NamesByOffset) (types extension : Option (List ℕ)) → IsElf b → HasOwnStrings b types extension names
+    → placed names ≡ offset_of (strings_with b types extension)
+offsets_are b names types extension h has = offsets_same (placed_texts names) (strings_with b types extension) (kept_strings b names types extension h has)
 
-pub table_is : (b : List ℕ) (names : NamesByPlace) (types extension : Option (List ℕ)) → IsElf b → HasOwnStrings b types extension names
+pub table_is : (b : List ℕ) (names : NamesByOffset) (types extension : Option (List ℕ)) → IsElf b → HasOwnStrings b types extension names
     → distinct_table (placed_texts names) ≡ strings_of (strings_with b types extension)
 table_is b names types extension h has = ap table_of (kept_strings b names types extension h has)

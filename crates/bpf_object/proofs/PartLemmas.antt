@@ -5,21 +5,21 @@ use Rattle.std.specs.List.{flat_map}
 use Rattle.bpf_words.specs.declared.Order.{Order}
 use Rattle.bpf_elf.specs.{ElfRules.IsElf, Header.FILE_LIMIT, Header.SHN_LORESERVE, Kinds.SHT_SYMTAB, Kinds.SHT_STRTAB, Numbers.order_of, Numbers.flags_of}
 use Rattle.bpf_elf.specs.Symbols.{symbol_count, is_kept_symbol, is_local, st_info}
-use Rattle.bpf_canon.specs.btf.strings.{NamesByPlace.NamesByPlace, NamesByPlace.placed_texts, DistinctNames.distinct_table}
+use Rattle.bpf_canon.specs.btf.strings.{NamesByOffset.NamesByOffset, NamesByOffset.placed_texts, DistinctNames.distinct_table}
 use Rattle.std.specs.Borrow.{Bor}
 use Rattle.std.proofs.lemmas.Bool.Decides.{nat_tests}
 use Rattle.std.proofs.lemmas.List.{map-append, length-map, get_or-append-add}
 use Rattle.bpf_object.specs.declared.file.WrittenSection.{WrittenSection as Written}
-use Rattle.bpf_object.specs.Canonical.{own_section, written_section, symbol_bytes, place_of, strings_of, first_global}
+use Rattle.bpf_object.specs.Canonical.{own_section, written_section, symbol_bytes, offset_of, strings_of, first_global}
 use Rattle.bpf_object.specs.declared.object_writer.Parts.{Parts}
 use Rattle.bpf_object.specs.FileStrings.{HasOwnStrings}
 use Rattle.bpf_object.specs.FileWith.{name_with, strings_with, section_with, symtab_with, sections_with, file_with, fits_with, IsFileWith}
 use Rattle.bpf_object.specs.{NotedStrings.placed, Objects.KeptSymbol, SymbolRows.globals_from}
-use Rattle.bpf_object.proofs.{CanonLists.length-listed, NamedLemmas.places_are, NamedLemmas.table_is, ReadBackLayout.length-file_of, ReadBackLayout.content_there, ReadBackWords.has_inside}
-use Rattle.bpf_object.specs.File.{WrittenSection, content_place, padding, file_of}
+use Rattle.bpf_object.proofs.{CanonLists.length-listed, NamedLemmas.offsets_are, NamedLemmas.table_is, ReadBackLayout.length-file_of, ReadBackLayout.content_there, ReadBackWords.has_inside}
+use Rattle.bpf_object.specs.File.{WrittenSection, content_offset, padding, file_of}
 use Rattle.bpf_object.specs.{Kept.listed, Kept.number_of, Kept.kept_sections, Kept.kept_symbol, Kept.kept_symbols, Written.content_of}
 use Rattle.bpf_object.specs.ObjectParts.{AreParts, bool_number, symtab_of, all_sections, is_file_small, file_by}
-use Rattle.bpf_object.proofs.FileLemmas.{next_of, place_grows, nothing}
+use Rattle.bpf_object.proofs.FileLemmas.{next_of, offset_grows, nothing}
 use Rattle.bpf_object.specs.WrittenSections.{section_value, section_at, no_section}
 
 pub own_same : (x : WrittenSection) (name other type : ℕ) (content same : List ℕ) (link info first alignment entry_size : ℕ)
@@ -55,16 +55,16 @@ symtab_is b types extension symtab has_types has_extension h k is =
 -- ---- the size of a file
 
 pub too_long : (xs : List Written) (k limit : ℕ) → k < length xs
-    → limit < content_place (section_at xs) k + (length (get_or xs k nothing).content.now + length (padding (length (get_or xs k nothing).content.now)))
-    → false ≡ nat_le (content_place (section_at xs) (length xs)) limit
+    → limit < content_offset (section_at xs) k + (length (get_or xs k nothing).content.now + length (padding (length (get_or xs k nothing).content.now)))
+    → false ≡ nat_le (content_offset (section_at xs) (length xs)) limit
 too_long xs k limit lt long =
     let next = next_of xs k nothing lt in
-    let grows = place_grows (section_at xs) (k + 1) (length xs) (omega (arith, lt)) in
-    let above : limit < content_place (section_at xs) (length xs) = omega (arith, next, grows, long) in
+    let grows = offset_grows (section_at xs) (k + 1) (length xs) (omega (arith, lt)) in
+    let above : limit < content_offset (section_at xs) (length xs) = omega (arith, next, grows, long) in
     grind (arith, nat_tests)
 
 pub small_same : (xs : List Written) → (nat_lt (length xs + 1) SHN_LORESERVE
-    && nat_le (content_place (section_at xs) (length xs) + 64 * (length xs + 1)) FILE_LIMIT) ≡ is_file_small (map section_value xs)
+    && nat_le (content_offset (section_at xs) (length xs) + 64 * (length xs + 1)) FILE_LIMIT) ≡ is_file_small (map section_value xs)
 small_same xs = rw (length-map xs section_value) refl
 
 pub file_same : (o : Order) (flags : ℕ) (xs : List Written) → file_of o flags (section_at xs) (length xs) ≡ file_by o flags (map section_value xs)
@@ -129,19 +129,19 @@ as_all : (b : List ℕ) (types extension : Option (List ℕ)) (place : List ℕ 
 unfolding composed
 as_all b types extension place symbols strings = refl
 
-as_with : (b : List ℕ) (types extension : Option (List ℕ)) → composed b types extension (place_of (strings_with b types extension)) (symtab_with b types extension)
-    (flat_map (symbol_bytes (order_of b) (place_of (strings_with b types extension))) (kept_symbols b)) (strings_of (strings_with b types extension))
+as_with : (b : List ℕ) (types extension : Option (List ℕ)) → composed b types extension (offset_of (strings_with b types extension)) (symtab_with b types extension)
+    (flat_map (symbol_bytes (order_of b) (offset_of (strings_with b types extension))) (kept_symbols b)) (strings_of (strings_with b types extension))
     (first_global (kept_symbols b)) ≡ sections_with b types extension
 unfolding composed
 as_with b types extension = refl
 
-pub sections_same : {A : Type 0} (b : List ℕ) (types extension : Option (List ℕ)) (names : NamesByPlace) (p : Parts A) → IsElf b
+pub sections_same : {A : Type 0} (b : List ℕ) (types extension : Option (List ℕ)) (names : NamesByOffset) (p : Parts A) → IsElf b
     → HasOwnStrings b types extension names → AreParts b names p
     → all_sections b (placed names) types extension p.symbols.items (distinct_table (placed_texts names)) ≡ sections_with b types extension
 sections_same b types extension names p h has are =
     let table = distinct_table (placed_texts names) in
-    let place = place_of (strings_with b types extension) in
-    let places = places_are b names types extension h has in
+    let place = offset_of (strings_with b types extension) in
+    let places = offsets_are b names types extension h has in
     let symbols = are.symbols ∙ ap (λ (at : List ℕ → ℕ). flat_map (symbol_bytes (order_of b) at) (kept_symbols b)) places in
     as_all b types extension (placed names) p.symbols.items table
     ∙ ap (λ (at : List ℕ → ℕ). composed b types extension at (symtab_of b types extension) p.symbols.items table (globals_from b (symbol_count b))) places
@@ -173,7 +173,7 @@ long_last o flags limit xs a z long =
     let s = λ (k : ℕ). slice_index_or all k no_section in
     let size = length-append xs (a ∷ z ∷ []) in
     let lt : length xs + 1 < length all = omega (arith, size) in
-    let there = has_inside (file_of o flags s (length all)) (content_place s (length xs + 1)) (s (length xs + 1)).content (content_there o flags s (length all) (length xs + 1) lt) in
+    let there = has_inside (file_of o flags s (length all)) (content_offset s (length xs + 1)) (s (length xs + 1)).content (content_there o flags s (length all) (length xs + 1) lt) in
     let content : length (s (length xs + 1)).content ≡ length z.content = ap (λ (w : WrittenSection). length w.content) (last_of xs a z no_section) in
     omega (arith, there, content, long)
 
@@ -187,11 +187,11 @@ pub strings_too_long : (b : List ℕ) (types extension : Option (List ℕ)) → 
 strings_too_long b types extension long =
     let strings = strings_with b types extension in
     let symtab = symtab_with b types extension in
-    let kept = map (written_section (order_of b) (place_of strings) symtab) (kept_sections b) in
-    let own = section_with (place_of strings) (codes ".BTF") types ++ section_with (place_of strings) (codes ".BTF.ext") extension in
-    let first = own_section (place_of strings (codes ".symtab")) SHT_SYMTAB (flat_map (symbol_bytes (order_of b) (place_of strings)) (kept_symbols b)) (symtab + 1)
+    let kept = map (written_section (order_of b) (offset_of strings) symtab) (kept_sections b) in
+    let own = section_with (offset_of strings) (codes ".BTF") types ++ section_with (offset_of strings) (codes ".BTF.ext") extension in
+    let first = own_section (offset_of strings (codes ".symtab")) SHT_SYMTAB (flat_map (symbol_bytes (order_of b) (offset_of strings)) (kept_symbols b)) (symtab + 1)
     (first_global (kept_symbols b)) 8 24 in
-    let last = own_section (place_of strings (codes ".strtab")) SHT_STRTAB (strings_of strings) 0 0 1 0 in
+    let last = own_section (offset_of strings (codes ".strtab")) SHT_STRTAB (strings_of strings) 0 0 1 0 in
     let same : (kept ++ own) ++ first ∷ last ∷ [] ≡ sections_with b types extension = append_assoc kept own (first ∷ last ∷ []) in
     let large : FILE_LIMIT < length (file_with b types extension) =
     subst (λ (t : List WrittenSection). FILE_LIMIT < length (file_by (order_of b) (flags_of b) t)) same

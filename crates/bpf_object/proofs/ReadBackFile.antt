@@ -7,8 +7,8 @@ use Rattle.bpf_elf.specs.Kinds.{SHT_NOBITS}
 use Rattle.bpf_elf.specs.Numbers as number
 use Rattle.bpf_elf.specs.Numbers.{order_of, word64_at}
 use Rattle.bpf_object.specs.WrittenSections.{no_section}
-use Rattle.bpf_object.specs.File.{WrittenSection, data_byte, ident, file_type, file_table, content_place, section_header, file_of}
-use Rattle.bpf_object.proofs.FileLemmas.{place_grows}
+use Rattle.bpf_object.specs.File.{WrittenSection, data_byte, ident, file_type, file_table, content_offset, section_header, file_of}
+use Rattle.bpf_object.proofs.FileLemmas.{offset_grows}
 use Rattle.bpf_object.proofs.ReadBackWords.{HasBytes, has_at, has_same, has_of, has_first, has_rest, read_byte}
 use Rattle.bpf_object.proofs.ReadBackNumbers.{Number, half, word, long, encode, FitWidths, Read, read_all}
 use Rattle.bpf_object.proofs.ReadBackLayout.{header, length-ident, header_there, section_header_there, zero_there}
@@ -33,7 +33,7 @@ pub record IsWritable (flags : ℕ) (section : ℕ → WrittenSection) (n : ℕ)
   pub few : n + 1 < 65280
   pub some : 0 < n
   pub flags_fit : flags < 2 ^ 32
-  pub short : content_place section n + 64 * (n + 1) ≤ 67108864
+  pub short : content_offset section n + 64 * (n + 1) ≤ 67108864
   pub fields : (i : ℕ) → i < n → FieldsFit (section i)
 
 -- ---- the header of a file
@@ -47,11 +47,11 @@ unfolding header_numbers
 header_encoded o flags table count = simp (append_assoc, append-nil)
 
 module _ (b : List ℕ) (o : Order) (flags : ℕ) (s : ℕ → WrittenSection) (n : ℕ) (is : b ≡ file_of o flags s n) where
-  header_here : HasBytes b 0 (header o flags (content_place s n) (n + 1))
-  header_here = has_of b (file_of o flags s n) 0 (header o flags (content_place s n) (n + 1)) is (header_there o flags s n)
+  header_here : HasBytes b 0 (header o flags (content_offset s n) (n + 1))
+  header_here = has_of b (file_of o flags s n) 0 (header o flags (content_offset s n) (n + 1)) is (header_there o flags s n)
 
   ident_here : HasBytes b 0 (ident o)
-  ident_here = has_first b 0 (ident o) (file_type o ++ file_table o flags (content_place s n) (n + 1)) header_here
+  ident_here = has_first b 0 (ident o) (file_type o ++ file_table o flags (content_offset s n) (n + 1)) header_here
 
   pub ident_byte : (i : ℕ) → i < 16 → slice_index b i ≡ slice_index (ident o) i
   ident_byte i lt = ap (λ (k : ℕ). slice_index b k) (sym (zero-add i)) ∙ read_byte b 0 i (ident o) ident_here (omega (arith, length-ident o, lt))
@@ -72,23 +72,23 @@ module _ (b : List ℕ) (o : Order) (flags : ℕ) (s : ℕ → WrittenSection) (
       of_byte Big = refl
 
 module _ (b : List ℕ) (o : Order) (flags : ℕ) (s : ℕ → WrittenSection) (n : ℕ) (is : b ≡ file_of o flags s n) (w : IsWritable flags s n) where
-  place_fits : (i : ℕ) → i ≤ n → content_place s i < 2 ^ 64
-  place_fits i le = let short = w.short in omega (arith, place_grows s i n le)
+  place_fits : (i : ℕ) → i ≤ n → content_offset s i < 2 ^ 64
+  place_fits i le = let short = w.short in omega (arith, offset_grows s i n le)
 
-  numbers_here : HasBytes b 16 (encode o (header_numbers flags (content_place s n) (n + 1)))
+  numbers_here : HasBytes b 16 (encode o (header_numbers flags (content_offset s n) (n + 1)))
   numbers_here =
-      has_same b 16 (file_type o ++ file_table o flags (content_place s n) (n + 1)) (encode o (header_numbers flags (content_place s n) (n + 1)))
-      (has_at b (0 + 16) 16 (file_type o ++ file_table o flags (content_place s n) (n + 1))
-      (has_rest b 0 16 (ident o) (file_type o ++ file_table o flags (content_place s n) (n + 1)) (header_here b o flags s n is) (length-ident o)) (omega arith))
-      (header_encoded o flags (content_place s n) (n + 1))
+      has_same b 16 (file_type o ++ file_table o flags (content_offset s n) (n + 1)) (encode o (header_numbers flags (content_offset s n) (n + 1)))
+      (has_at b (0 + 16) 16 (file_type o ++ file_table o flags (content_offset s n) (n + 1))
+      (has_rest b 0 16 (ident o) (file_type o ++ file_table o flags (content_offset s n) (n + 1)) (header_here b o flags s n is) (length-ident o)) (omega arith))
+      (header_encoded o flags (content_offset s n) (n + 1))
 
-  numbers_fit : FitWidths (header_numbers flags (content_place s n) (n + 1))
+  numbers_fit : FitWidths (header_numbers flags (content_offset s n) (n + 1))
   unfolding header_numbers
   numbers_fit = let few = w.few in let flags_fit = w.flags_fit in let at = place_fits n (omega arith) in
       (omega arith, (omega arith, (omega arith, (omega arith, (omega arith, (at, (flags_fit, (omega arith, (omega arith, (omega arith, (omega arith, (omega arith, (omega arith, tt)))))))))))))
 
-  header_reads : Read o b 16 0 (header_numbers flags (content_place s n) (n + 1))
-  header_reads = read_all o b 16 0 (header_numbers flags (content_place s n) (n + 1)) numbers_fit numbers_here
+  header_reads : Read o b 16 0 (header_numbers flags (content_offset s n) (n + 1))
+  header_reads = read_all o b 16 0 (header_numbers flags (content_offset s n) (n + 1)) numbers_fit numbers_here
 
 -- ---- the same numbers, by the byte order that the file states
 
@@ -130,8 +130,8 @@ file_header b o flags table count order r = record {
 }
 
 pub has_file_header : (b : List ℕ) (o : Order) (flags : ℕ) (s : ℕ → WrittenSection) (n : ℕ) → b ≡ file_of o flags s n → IsWritable flags s n
-    → HasFileHeader b flags (content_place s n) (n + 1)
-has_file_header b o flags s n is w = file_header b o flags (content_place s n) (n + 1) (order_is b o flags s n is) (header_reads b o flags s n is w)
+    → HasFileHeader b flags (content_offset s n) (n + 1)
+has_file_header b o flags s n is w = file_header b o flags (content_offset s n) (n + 1) (order_is b o flags s n is) (header_reads b o flags s n is w)
 
 -- ---- the headers of sections
 
@@ -161,10 +161,10 @@ unfolding section_numbers
 section_numbers_fit s place f at = (f.name_offset, (f.type, (f.flags, (f.address, (at, (f.size, (f.link, (f.info, (f.alignment, (f.entry_size, tt))))))))))
 
 section_header_reads : (b : List ℕ) (o : Order) (i : ℕ) (s : WrittenSection) (place : ℕ) → order_of b ≡ o
-    → Read o b (number.place b i) 0 (section_numbers s place) → HasHeader b i s place
+    → Read o b (number.header_offset b i) 0 (section_numbers s place) → HasHeader b i s place
 unfolding section_numbers
 section_header_reads b o i s place order r =
-    let p = number.place b i in
+    let p = number.header_offset b i in
     record {
       name_offset = word_is b o p s.name_offset order (ap (λ (k : ℕ). word32_at o b k) (sym (add-zero p)) ∙ r.0);
       type = word_is b o (p + 4) s.type order r.1.0;
@@ -179,21 +179,21 @@ section_header_reads b o i s place order r =
     }
 
 row_reads : (b : List ℕ) (o : Order) (i : ℕ) (s : WrittenSection) (place : ℕ) → order_of b ≡ o → FitWidths (section_numbers s place)
-    → HasBytes b (number.place b i) (section_header o s place) → HasHeader b i s place
+    → HasBytes b (number.header_offset b i) (section_header o s place) → HasHeader b i s place
 row_reads b o i s place order fit h =
     section_header_reads b o i s place order
-    (read_all o b (number.place b i) 0 (section_numbers s place) fit
-    (has_at b (number.place b i) (number.place b i + 0) (encode o (section_numbers s place))
-    (has_same b (number.place b i) (section_header o s place) (encode o (section_numbers s place)) h (section_encoded o s place)) (omega arith)))
+    (read_all o b (number.header_offset b i) 0 (section_numbers s place) fit
+    (has_at b (number.header_offset b i) (number.header_offset b i + 0) (encode o (section_numbers s place))
+    (has_same b (number.header_offset b i) (section_header o s place) (encode o (section_numbers s place)) h (section_encoded o s place)) (omega arith)))
 
 module _ (b : List ℕ) (o : Order) (flags : ℕ) (s : ℕ → WrittenSection) (n : ℕ) (is : b ≡ file_of o flags s n) (w : IsWritable flags s n) where
   -- that of a section
-  pub has_header : (i : ℕ) → i < n → HasHeader b (i + 1) (s i) (content_place s i)
+  pub has_header : (i : ℕ) → i < n → HasHeader b (i + 1) (s i) (content_offset s i)
   has_header i lt =
       let table = (has_file_header b o flags s n is w).table in
-      row_reads b o (i + 1) (s i) (content_place s i) (order_is b o flags s n is) (section_numbers_fit (s i) (content_place s i) (w.fields i lt) (place_fits b o flags s n is w i (omega arith)))
-      (has_at b (content_place s n + 64 * (i + 1)) (number.place b (i + 1)) (section_header o (s i) (content_place s i))
-      (has_of b (file_of o flags s n) (content_place s n + 64 * (i + 1)) (section_header o (s i) (content_place s i)) is (section_header_there o flags s n i lt)) (omega arith))
+      row_reads b o (i + 1) (s i) (content_offset s i) (order_is b o flags s n is) (section_numbers_fit (s i) (content_offset s i) (w.fields i lt) (place_fits b o flags s n is w i (omega arith)))
+      (has_at b (content_offset s n + 64 * (i + 1)) (number.header_offset b (i + 1)) (section_header o (s i) (content_offset s i))
+      (has_of b (file_of o flags s n) (content_offset s n + 64 * (i + 1)) (section_header o (s i) (content_offset s i)) is (section_header_there o flags s n i lt)) (omega arith))
 
   -- the zero row
   zero_row : (o : Order) → replicate 64 0 ≡ section_header o no_section 0
@@ -206,11 +206,11 @@ module _ (b : List ℕ) (o : Order) (flags : ℕ) (s : ℕ → WrittenSection) (
 
   pub zeros_here : HasBytes b (number.table b) (replicate 64 0)
   zeros_here =
-      has_at b (content_place s n) (number.table b) (replicate 64 0) (has_of b (file_of o flags s n) (content_place s n) (replicate 64 0) is (zero_there o flags s n))
+      has_at b (content_offset s n) (number.table b) (replicate 64 0) (has_of b (file_of o flags s n) (content_offset s n) (replicate 64 0) is (zero_there o flags s n))
       (sym (has_file_header b o flags s n is w).table)
 
   pub has_zero_header : HasHeader b 0 no_section 0
   has_zero_header =
       row_reads b o 0 no_section 0 (order_is b o flags s n is) zeros_fit
-      (has_at b (number.table b) (number.place b 0) (section_header o no_section 0)
+      (has_at b (number.table b) (number.header_offset b 0) (section_header o no_section 0)
       (has_same b (number.table b) (replicate 64 0) (section_header o no_section 0) zeros_here (zero_row o)) (omega arith))

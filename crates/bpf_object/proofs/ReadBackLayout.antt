@@ -2,7 +2,7 @@
 use Rattle.std.proofs.Common.{◌≡◌, ℕ, zero, suc, ◌+◌, ◌*◌, ◌<◌, List, ◌++◌, length, replicate, refl, inl, inr, subst, length-append, arith}
 use Rattle.std.proofs.lemmas.{Bool.cases_lt}
 use Rattle.bpf_words.specs.declared.Order.{Order, TheVariants.Little, TheVariants.Big}
-use Rattle.bpf_object.specs.File.{WrittenSection, ident, file_type, file_table, padding, contents, content_place, section_header, section_headers, file_of}
+use Rattle.bpf_object.specs.File.{WrittenSection, ident, file_type, file_table, padding, contents, content_offset, section_header, section_headers, file_of}
 use Rattle.bpf_object.proofs.ReadBackWords.{HasBytes, has_at, has_all, has_first, has_rest, has_within}
 
 -- ---- lengths
@@ -41,36 +41,36 @@ length-section_header Big s offset = refl
 pub length-section_headers : (o : Order) (s : ℕ → WrittenSection) (n : ℕ) → length (section_headers o s n) ≡ 64 * (n + 1)
 length-section_headers o s zero = refl
 length-section_headers o s (suc n) =
-    let one = length-section_header o (s n) (content_place s n) in
+    let one = length-section_header o (s n) (content_offset s n) in
     let before = length-section_headers o s n in
-    omega (arith, length-append (section_headers o s n) (section_header o (s n) (content_place s n)))
+    omega (arith, length-append (section_headers o s n) (section_header o (s n) (content_offset s n)))
 
-pub length-file_of : (o : Order) (flags : ℕ) (s : ℕ → WrittenSection) (n : ℕ) → length (file_of o flags s n) ≡ content_place s n + 64 * (n + 1)
+pub length-file_of : (o : Order) (flags : ℕ) (s : ℕ → WrittenSection) (n : ℕ) → length (file_of o flags s n) ≡ content_offset s n + 64 * (n + 1)
 length-file_of o flags s n =
     omega (
       arith,
-      length-append (header o flags (content_place s n) (n + 1)) (contents s n ++ section_headers o s n),
+      length-append (header o flags (content_offset s n) (n + 1)) (contents s n ++ section_headers o s n),
       length-append (contents s n) (section_headers o s n),
-      length-header o flags (content_place s n) (n + 1),
+      length-header o flags (content_offset s n) (n + 1),
       length-section_headers o s n,
     )
 
 -- ---- the parts of a file
 
-pub header_there : (o : Order) (flags : ℕ) (s : ℕ → WrittenSection) (n : ℕ) → HasBytes (file_of o flags s n) 0 (header o flags (content_place s n) (n + 1))
+pub header_there : (o : Order) (flags : ℕ) (s : ℕ → WrittenSection) (n : ℕ) → HasBytes (file_of o flags s n) 0 (header o flags (content_offset s n) (n + 1))
 header_there o flags s n =
-    has_first (file_of o flags s n) 0 (header o flags (content_place s n) (n + 1)) (contents s n ++ section_headers o s n) (has_all (file_of o flags s n))
+    has_first (file_of o flags s n) 0 (header o flags (content_offset s n) (n + 1)) (contents s n ++ section_headers o s n) (has_all (file_of o flags s n))
 
 after_header : (o : Order) (flags : ℕ) (s : ℕ → WrittenSection) (n : ℕ) → HasBytes (file_of o flags s n) 64 (contents s n ++ section_headers o s n)
 after_header o flags s n =
     has_at (file_of o flags s n) (0 + 64) 64 (contents s n ++ section_headers o s n)
-    (has_rest (file_of o flags s n) 0 64 (header o flags (content_place s n) (n + 1)) (contents s n ++ section_headers o s n) (has_all (file_of o flags s n)) (length-header o flags (content_place s n) (n + 1)))
+    (has_rest (file_of o flags s n) 0 64 (header o flags (content_offset s n) (n + 1)) (contents s n ++ section_headers o s n) (has_all (file_of o flags s n)) (length-header o flags (content_offset s n) (n + 1)))
     (omega arith)
 
 pub contents_there : (o : Order) (flags : ℕ) (s : ℕ → WrittenSection) (n : ℕ) → HasBytes (file_of o flags s n) 64 (contents s n)
 contents_there o flags s n = has_first (file_of o flags s n) 64 (contents s n) (section_headers o s n) (after_header o flags s n)
 
-pub headers_there : (o : Order) (flags : ℕ) (s : ℕ → WrittenSection) (n : ℕ) → HasBytes (file_of o flags s n) (content_place s n) (section_headers o s n)
+pub headers_there : (o : Order) (flags : ℕ) (s : ℕ → WrittenSection) (n : ℕ) → HasBytes (file_of o flags s n) (content_offset s n) (section_headers o s n)
 headers_there o flags s n = has_rest (file_of o flags s n) 64 (length (contents s n)) (contents s n) (section_headers o s n) (after_header o flags s n) refl
 
 -- ---- a section of a file
@@ -94,19 +94,19 @@ content_within s (suc n) i lt =
           subst (λ (m : ℕ). HasBytes (contents s (suc n)) (length (contents s m)) (s m).content) same here
     ]
 
-pub content_there : (o : Order) (flags : ℕ) (s : ℕ → WrittenSection) (n i : ℕ) → i < n → HasBytes (file_of o flags s n) (content_place s i) (s i).content
+pub content_there : (o : Order) (flags : ℕ) (s : ℕ → WrittenSection) (n i : ℕ) → i < n → HasBytes (file_of o flags s n) (content_offset s i) (s i).content
 content_there o flags s n i lt =
     has_within (file_of o flags s n) 64 (length (contents s i)) (contents s n) (s i).content (contents_there o flags s n) (content_within s n i lt)
 
 -- the header of a section, in the table of headers
-header_within : (o : Order) (s : ℕ → WrittenSection) (n i : ℕ) → i < n → HasBytes (section_headers o s n) (64 * (i + 1)) (section_header o (s i) (content_place s i))
+header_within : (o : Order) (s : ℕ → WrittenSection) (n i : ℕ) → i < n → HasBytes (section_headers o s n) (64 * (i + 1)) (section_header o (s i) (content_offset s i))
 header_within o s zero i lt = absurd (omega (arith, lt))
 header_within o s (suc n) i lt =
-    let last = section_header o (s n) (content_place s n) in
+    let last = section_header o (s n) (content_offset s n) in
     elim (cases_lt i n) [
       | inl below ↦
-          has_at (section_headers o s (suc n)) (0 + 64 * (i + 1)) (64 * (i + 1)) (section_header o (s i) (content_place s i))
-          (has_within (section_headers o s (suc n)) 0 (64 * (i + 1)) (section_headers o s n) (section_header o (s i) (content_place s i))
+          has_at (section_headers o s (suc n)) (0 + 64 * (i + 1)) (64 * (i + 1)) (section_header o (s i) (content_offset s i))
+          (has_within (section_headers o s (suc n)) 0 (64 * (i + 1)) (section_headers o s n) (section_header o (s i) (content_offset s i))
           (has_first (section_headers o s (suc n)) 0 (section_headers o s n) last (has_all (section_headers o s (suc n)))) (header_within o s n i below)) (omega arith)
       | inr from ↦
           let same : n ≡ i = omega (arith, lt, from) in
@@ -114,13 +114,13 @@ header_within o s (suc n) i lt =
           has_at (section_headers o s (suc n)) (0 + 64 * (n + 1)) (64 * (n + 1)) last
           (has_rest (section_headers o s (suc n)) 0 (64 * (n + 1)) (section_headers o s n) last (has_all (section_headers o s (suc n))) (length-section_headers o s n))
           (omega arith) in
-          subst (λ (m : ℕ). HasBytes (section_headers o s (suc n)) (64 * (m + 1)) (section_header o (s m) (content_place s m))) same here
+          subst (λ (m : ℕ). HasBytes (section_headers o s (suc n)) (64 * (m + 1)) (section_header o (s m) (content_offset s m))) same here
     ]
 
 pub section_header_there : (o : Order) (flags : ℕ) (s : ℕ → WrittenSection) (n i : ℕ) → i < n
-    → HasBytes (file_of o flags s n) (content_place s n + 64 * (i + 1)) (section_header o (s i) (content_place s i))
+    → HasBytes (file_of o flags s n) (content_offset s n + 64 * (i + 1)) (section_header o (s i) (content_offset s i))
 section_header_there o flags s n i lt =
-    has_within (file_of o flags s n) (content_place s n) (64 * (i + 1)) (section_headers o s n) (section_header o (s i) (content_place s i))
+    has_within (file_of o flags s n) (content_offset s n) (64 * (i + 1)) (section_headers o s n) (section_header o (s i) (content_offset s i))
     (headers_there o flags s n) (header_within o s n i lt)
 
 -- the zero row
@@ -129,10 +129,10 @@ zero_within o s zero = has_all (replicate 64 0)
 zero_within o s (suc n) =
     has_at (section_headers o s (suc n)) (0 + 0) 0 (replicate 64 0)
     (has_within (section_headers o s (suc n)) 0 0 (section_headers o s n) (replicate 64 0)
-    (has_first (section_headers o s (suc n)) 0 (section_headers o s n) (section_header o (s n) (content_place s n)) (has_all (section_headers o s (suc n)))) (zero_within o s n))
+    (has_first (section_headers o s (suc n)) 0 (section_headers o s n) (section_header o (s n) (content_offset s n)) (has_all (section_headers o s (suc n)))) (zero_within o s n))
     (omega arith)
 
-pub zero_there : (o : Order) (flags : ℕ) (s : ℕ → WrittenSection) (n : ℕ) → HasBytes (file_of o flags s n) (content_place s n) (replicate 64 0)
+pub zero_there : (o : Order) (flags : ℕ) (s : ℕ → WrittenSection) (n : ℕ) → HasBytes (file_of o flags s n) (content_offset s n) (replicate 64 0)
 zero_there o flags s n =
-    has_at (file_of o flags s n) (content_place s n + 0) (content_place s n) (replicate 64 0)
-    (has_within (file_of o flags s n) (content_place s n) 0 (section_headers o s n) (replicate 64 0) (headers_there o flags s n) (zero_within o s n)) (omega arith)
+    has_at (file_of o flags s n) (content_offset s n + 0) (content_offset s n) (replicate 64 0)
+    (has_within (file_of o flags s n) (content_offset s n) 0 (section_headers o s n) (replicate 64 0) (headers_there o flags s n) (zero_within o s n)) (omega arith)

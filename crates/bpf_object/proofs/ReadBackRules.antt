@@ -10,7 +10,7 @@ use Rattle.bpf_elf.specs.Header.{FILE_LIMIT, SHN_LORESERVE, ELF_MAGIC, ELFCLASS6
 use Rattle.bpf_elf.specs.Sections.{content, is_inside, is_string_table, table_rules, name}
 use Rattle.bpf_elf.specs.ElfRules.{head_rules}
 use Rattle.bpf_elf.proofs.RuleLemmas.{both_hold}
-use Rattle.bpf_object.specs.File.{WrittenSection, data_byte, ident, content_place, file_of}
+use Rattle.bpf_object.specs.File.{WrittenSection, data_byte, ident, content_offset, file_of}
 use Rattle.bpf_object.proofs.ReadBackTests.{equal_test, most_test, less_test}
 use Rattle.bpf_object.proofs.ReadBackLayout.{length-file_of}
 use Rattle.bpf_object.proofs.ReadBackFile.{IsWritable, ident_byte, HasFileHeader, has_file_header, has_header, has_zero_header}
@@ -26,9 +26,9 @@ ident_hold : (b : List ℕ) → length b ≤ FILE_LIMIT → 64 ≤ length b → 
 ident_hold b short long magic class order version =
     rw (most_test (length b) FILE_LIMIT short, most_test 64 (length b) long, equal_test (word32_at Little b 0) ELF_MAGIC magic, equal_test (slice_index b 4) ELFCLASS64 class, order, equal_test (slice_index b 6) EV_CURRENT version) refl
 
-place_hold : (b : List ℕ) → 0 < number.count b → number.count b < SHN_LORESERVE → number.table b + 64 * number.count b ≤ length b → number.names b < number.count b
+offset_hold : (b : List ℕ) → 0 < number.count b → number.count b < SHN_LORESERVE → number.table b + 64 * number.count b ≤ length b → number.names b < number.count b
     → AllHold (place_rules b)
-place_hold b some few inside names =
+offset_hold b some few inside names =
     let counted = and_from (nat_lt 0 (number.count b)) (nat_lt (number.count b) SHN_LORESERVE) (less_test 0 (number.count b) some) (less_test (number.count b) SHN_LORESERVE few) in
     rw (counted, most_test (number.table b + 64 * number.count b) (length b) inside, less_test (number.names b) (number.count b) names) refl
 
@@ -45,7 +45,7 @@ data_byte_there Little = refl
 data_byte_there Big = refl
 
 module _ (b : List ℕ) (o : Order) (flags : ℕ) (s : ℕ → WrittenSection) (n : ℕ) (is : b ≡ file_of o flags s n) (w : IsWritable flags s n) where
-  size_is : length b ≡ content_place s n + 64 * (n + 1)
+  size_is : length b ≡ content_offset s n + 64 * (n + 1)
   size_is = ap length is ∙ length-file_of o flags s n
 
   ident_kept : AllHold (ident_rules b)
@@ -57,20 +57,20 @@ module _ (b : List ℕ) (o : Order) (flags : ℕ) (s : ℕ → WrittenSection) (
       ident_hold b (omega (arith, size_is)) (omega (arith, size_is))
       (magic_is b (at 0 (omega arith)) (at 1 (omega arith)) (at 2 (omega arith)) (at 3 (omega arith))) (at 4 (omega arith)) order (at 6 (omega arith))
 
-  places_kept : AllHold (place_rules b)
-  places_kept =
+  offsets_kept : AllHold (place_rules b)
+  offsets_kept =
       let h = has_file_header b o flags s n is w in
       let table = h.table in
       let count = h.count in
       let names = h.names in
       let few = w.few in
-      place_hold b (omega arith) (omega arith) (omega (arith, size_is)) (omega arith)
+      offset_hold b (omega arith) (omega arith) (omega (arith, size_is)) (omega arith)
 
   -- the header
   pub head_holds : AllHold (head_rules b)
   head_holds =
       both_hold (ident_rules b) (header_rules b) ident_kept
-      (header_hold b flags (content_place s n) (n + 1) (has_file_header b o flags s n is w) places_kept)
+      (header_hold b flags (content_offset s n) (n + 1) (has_file_header b o flags s n is w) offsets_kept)
 
   -- ---- string tables
 

@@ -5,7 +5,7 @@ use Rattle.bpf_words.specs.declared.Order.{Order}
 use Rattle.bpf_elf.specs.Kinds.{SHT_NOBITS}
 use Rattle.bpf_elf.specs.Numbers as number
 use Rattle.bpf_elf.specs.Sections.{file_size, is_inside, content, is_zero_at}
-use Rattle.bpf_object.specs.File.{WrittenSection, content_place, file_of}
+use Rattle.bpf_object.specs.File.{WrittenSection, content_offset, file_of}
 use Rattle.bpf_object.proofs.ReadBackTests.{most_test}
 use Rattle.bpf_object.proofs.ReadBackWords.{HasBytes, has_of, has_inside, has_part}
 use Rattle.bpf_object.proofs.ReadBackLayout.{content_there}
@@ -28,17 +28,17 @@ inside_read b i s place h size there =
     most_test (number.offset b i + file_size b i) (length b) (omega (arith, size, at, inside))
 
 module _ (b : List ℕ) (o : Order) (flags : ℕ) (s : ℕ → WrittenSection) (n : ℕ) (is : b ≡ file_of o flags s n) (w : IsWritable flags s n) where
-  pub content_here : (i : ℕ) → i < n → HasBytes b (content_place s i) (s i).content
-  content_here i lt = has_of b (file_of o flags s n) (content_place s i) (s i).content is (content_there o flags s n i lt)
+  pub content_here : (i : ℕ) → i < n → HasBytes b (content_offset s i) (s i).content
+  content_here i lt = has_of b (file_of o flags s n) (content_offset s i) (s i).content is (content_there o flags s n i lt)
 
   pub file_size_is : (i : ℕ) → i < n → file_size b (i + 1) ≡ length (s i).content
-  file_size_is i lt = size_read b (i + 1) (s i) (content_place s i) (has_header b o flags s n is w i lt) (w.fields i lt)
+  file_size_is i lt = size_read b (i + 1) (s i) (content_offset s i) (has_header b o flags s n is w i lt) (w.fields i lt)
 
   pub content_is : (i : ℕ) → i < n → content b (i + 1) ≡ (s i).content
-  content_is i lt = content_read b (i + 1) (s i) (content_place s i) (has_header b o flags s n is w i lt) (file_size_is i lt) (content_here i lt)
+  content_is i lt = content_read b (i + 1) (s i) (content_offset s i) (has_header b o flags s n is w i lt) (file_size_is i lt) (content_here i lt)
 
   pub inside_is : (i : ℕ) → i < n → is_inside b (i + 1) ≡ true
-  inside_is i lt = inside_read b (i + 1) (s i) (content_place s i) (has_header b o flags s n is w i lt) (file_size_is i lt) (content_here i lt)
+  inside_is i lt = inside_read b (i + 1) (s i) (content_offset s i) (has_header b o flags s n is w i lt) (file_size_is i lt) (content_here i lt)
 
   -- ---- the zero row
 

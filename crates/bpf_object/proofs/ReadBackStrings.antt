@@ -6,9 +6,9 @@ use Rattle.std.proofs.lemmas.Bool.Decides.{nat_tests}
 use Rattle.std.proofs.lemmas.List.{drop_at, get_or_at, Sums.take_while-cons}
 use Rattle.bpf_elf.specs.Names.{is_closed, string_at}
 use Rattle.btf_raw.specs.{Header.HasNulEnds, Names.IsWithoutNul, Names.TextAt}
-use Rattle.btf_types.specs.{Names.kept, Names.with_nul, Names.table_of, Names.place_in, Reading.before_nul, Reading.text_from}
+use Rattle.btf_types.specs.{Names.kept, Names.with_nul, Names.table_of, Names.offset_within, Reading.before_nul, Reading.text_from}
 use Rattle.btf_types.proofs.Members.{Has}
-use Rattle.btf_types.proofs.StringLemmas.Texts.{Has-kept, text_at_place, empty_at_zero}
+use Rattle.btf_types.proofs.StringLemmas.Texts.{Has-kept, text_at_offset, empty_at_zero}
 
 -- a byte that isn't NUL
 abbrev is_some : ℕ → Bool
@@ -52,26 +52,26 @@ text_inside strings off x t =
 -- ---- the table of a list of strings
 
 module _ (ks : List (List ℕ)) (x : List ℕ) (has : Has ks x) (none : IsWithoutNul x) where
-  -- a string of the list is at its place
-  pub string_in_table : string_at (table_of ks) (place_in ks x) ≡ x
-  string_in_table = string_read (table_of ks) (place_in ks x) x (text_at_place ks x has none)
+  -- a string of the list is at its offset
+  pub string_in_table : string_at (table_of ks) (offset_within ks x) ≡ x
+  string_in_table = string_read (table_of ks) (offset_within ks x) x (text_at_offset ks x has none)
 
-  pub text_in_table : text_from (table_of ks) (place_in ks x) ≡ x
-  text_in_table = text_read (table_of ks) (place_in ks x) x (text_at_place ks x has none)
+  pub text_in_table : text_from (table_of ks) (offset_within ks x) ≡ x
+  text_in_table = text_read (table_of ks) (offset_within ks x) x (text_at_offset ks x has none)
 
-  pub place_below : place_in ks x < length (table_of ks)
-  place_below = let inside = text_inside (table_of ks) (place_in ks x) x (text_at_place ks x has none) in omega (arith, inside)
+  pub place_below : offset_within ks x < length (table_of ks)
+  place_below = let inside = text_inside (table_of ks) (offset_within ks x) x (text_at_offset ks x has none) in omega (arith, inside)
 
 -- the empty string is at 0
 pub empty_string_in_table : (ks : List (List ℕ)) → string_at (table_of ks) 0 ≡ []
 empty_string_in_table ks = string_read (table_of ks) 0 [] (empty_at_zero ks)
 
--- a name that isn't empty is at its place in the table of the distinct ones
+-- a name that isn't empty is at its offset in the table of the distinct ones
 pub name_in_table : (xs : List (List ℕ)) (c : ℕ) (cs : List ℕ) → Has xs (c ∷ cs) → IsWithoutNul (c ∷ cs)
-    → string_at (table_of (kept xs)) (place_in (kept xs) (c ∷ cs)) ≡ c ∷ cs
+    → string_at (table_of (kept xs)) (offset_within (kept xs) (c ∷ cs)) ≡ c ∷ cs
 name_in_table xs c cs has none = string_in_table (kept xs) (c ∷ cs) (Has-kept xs c cs has) none
 
-pub name_below : (xs : List (List ℕ)) (c : ℕ) (cs : List ℕ) → Has xs (c ∷ cs) → IsWithoutNul (c ∷ cs) → place_in (kept xs) (c ∷ cs) < length (table_of (kept xs))
+pub name_below : (xs : List (List ℕ)) (c : ℕ) (cs : List ℕ) → Has xs (c ∷ cs) → IsWithoutNul (c ∷ cs) → offset_within (kept xs) (c ∷ cs) < length (table_of (kept xs))
 name_below xs c cs has none = place_below (kept xs) (c ∷ cs) (Has-kept xs c cs has) none
 
 -- the table begins and ends with NUL

@@ -10,7 +10,7 @@ use Rattle.bpf_elf.specs.Numbers as number
 use Rattle.bpf_elf.specs.Names.{is_closed}
 use Rattle.bpf_elf.specs.Kinds.{SHT_STRTAB, SHT_NOBITS, is_kind}
 use Rattle.bpf_elf.specs.Sections.{content, is_string_table, is_zero_at}
-use Rattle.bpf_elf.specs.Symbols.{symbols, symbol_count, symbol_place, symbol_strings, st_name, st_info, st_shndx, st_value, st_size, is_special, is_local, is_data, has_section, is_within, symbol_table_rules, symbol_rules}
+use Rattle.bpf_elf.specs.Symbols.{symbols, symbol_count, symbol_offset, symbol_strings, st_name, st_info, st_shndx, st_value, st_size, is_special, is_local, is_data, has_section, is_within, symbol_table_rules, symbol_rules}
 use Rattle.bpf_elf.proofs.{RuleLemmas.first_of_there, KindLemmas.symbols_type}
 use Rattle.bpf_object.specs.File.{WrittenSection, file_of}
 use Rattle.bpf_object.proofs.ReadBackTests.{equal_test, most_test, less_test, test_below}
@@ -64,7 +64,7 @@ has_written_section s n x = section_test (n + 1) (is_written_data s n x.section)
 abbrev pub is_written_within : (ℕ → WrittenSection) → ℕ → WrittenSymbol → Bool
 is_written_within s n x = within_test (is_written_data s n x.section) (written_size s x.section) x.section x.value x.size
 
--- the section at a place has m symbols, of which the first one is zero, and another section their names
+-- the section at an offset has m symbols, of which the first one is zero, and another section their names
 pub record AreSymbols (o : Order) (s : ℕ → WrittenSection) (n place names : ℕ) (symbol : ℕ → WrittenSymbol) (m : ℕ) : Type 0 where
   pub section : written_section s n Symbols (n + 1) ≡ suc place
   pub table : (s place).content ≡ rows (λ j. row_of o (symbol j)) m
@@ -119,7 +119,7 @@ module _ (b : List ℕ) (o : Order) (flags : ℕ) (s : ℕ → WrittenSection) (
       ∙ size_of_rows b o flags s n is w place below (λ j. row_of o (symbol j)) 24 m row_length t.table bits
 
   -- the rows
-  row_at : (j : ℕ) → j < m → HasBytes b (symbol_place b j) (row_of o (symbol j))
+  row_at : (j : ℕ) → j < m → HasBytes b (symbol_offset b j) (row_of o (symbol j))
   row_at j lt = symbol_here b o flags s n is w place below (λ j. row_of o (symbol j)) m row_length t.table symbols_at j lt
 
   pub symbol_is : (j : ℕ) → j < m → HasSymbol b j (symbol j).name_offset (symbol j).info (symbol j).other (symbol j).section (symbol j).value (symbol j).size
@@ -137,7 +137,7 @@ module _ (b : List ℕ) (o : Order) (flags : ℕ) (s : ℕ → WrittenSection) (
 
   zero_row : is_zero_at b (number.offset b (symbols b)) 24 ≡ true
   zero_row =
-      let at : HasBytes b (number.offset b (symbols b)) (row_of o (symbol 0)) = has_at b (symbol_place b 0) (number.offset b (symbols b)) (row_of o (symbol 0)) (row_at 0 t.some) (omega arith) in
+      let at : HasBytes b (number.offset b (symbols b)) (row_of o (symbol 0)) = has_at b (symbol_offset b 0) (number.offset b (symbols b)) (row_of o (symbol 0)) (row_at 0 t.some) (omega arith) in
       zeros_at b (number.offset b (symbols b)) (replicate 24 0) refl (has_same b (number.offset b (symbols b)) (row_of o (symbol 0)) (replicate 24 0) at t.first)
 
   -- the rules on it

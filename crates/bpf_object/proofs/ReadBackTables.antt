@@ -6,9 +6,9 @@ use Rattle.bpf_words.specs.Words.{word16, word32, word32_at}
 use Rattle.bpf_elf.specs.Kinds.{SHT_NOBITS}
 use Rattle.bpf_elf.specs.Numbers as number
 use Rattle.bpf_elf.specs.Numbers.{order_of, word64_at}
-use Rattle.bpf_elf.specs.Symbols.{symbols, symbol_count, symbol_place, st_name, st_info, st_other, st_shndx, st_value, st_size}
-use Rattle.bpf_elf.specs.Relocations.{relocation_count, relocation_place, r_offset, r_symbol, r_type}
-use Rattle.bpf_object.specs.File.{WrittenSection, word64, content_place, file_of}
+use Rattle.bpf_elf.specs.Symbols.{symbols, symbol_count, symbol_offset, st_name, st_info, st_other, st_shndx, st_value, st_size}
+use Rattle.bpf_elf.specs.Relocations.{relocation_count, relocation_offset, r_offset, r_symbol, r_type}
+use Rattle.bpf_object.specs.File.{WrittenSection, word64, content_offset, file_of}
 use Rattle.bpf_object.proofs.ReadBackWords.{HasBytes, has_at, has_same}
 use Rattle.bpf_object.proofs.ReadBackNumbers.{Number, byte, half, word, long, encode, Read, read_all}
 use Rattle.bpf_object.proofs.ReadBackFile.{IsWritable, has_header, half_is, word_is, long_is}
@@ -43,9 +43,9 @@ pub record HasSymbol (b : List ℕ) (j name info other shndx value size : ℕ) :
   pub size_is : st_size b j ≡ size
 
 symbol_read : (b : List ℕ) (o : Order) (j name info other shndx value size : ℕ) → order_of b ≡ o
-    → Read o b (symbol_place b j) 0 (symbol_numbers name info other shndx value size) → HasSymbol b j name info other shndx value size
+    → Read o b (symbol_offset b j) 0 (symbol_numbers name info other shndx value size) → HasSymbol b j name info other shndx value size
 symbol_read b o j name info other shndx value size order r =
-    let p = symbol_place b j in
+    let p = symbol_offset b j in
     record {
       name_is = word_is b o p name order (ap (λ (k : ℕ). word32_at o b k) (sym (add-zero p)) ∙ r.0);
       info_is = r.1.0;
@@ -55,15 +55,15 @@ symbol_read b o j name info other shndx value size order r =
       size_is = long_is b o (p + 16) size order r.1.1.1.1.1.0;
     }
 
--- a symbol that was written at the place of the symbol with this index
+-- a symbol that was written at the offset of the symbol with this index
 pub has_symbol : (b : List ℕ) (o : Order) (j name info other shndx value size : ℕ) → order_of b ≡ o → name < 2 ^ 32 → shndx < 2 ^ 16 → value < 2 ^ 64 → size < 2 ^ 64
-    → HasBytes b (symbol_place b j) (symbol_row o name info other shndx value size) → HasSymbol b j name info other shndx value size
+    → HasBytes b (symbol_offset b j) (symbol_row o name info other shndx value size) → HasSymbol b j name info other shndx value size
 has_symbol b o j name info other shndx value size order name_fits shndx_fits value_fits size_fits h =
     let numbers = symbol_numbers name info other shndx value size in
     symbol_read b o j name info other shndx value size order
-    (read_all o b (symbol_place b j) 0 numbers (name_fits, (tt, (tt, (shndx_fits, (value_fits, (size_fits, tt))))))
-    (has_at b (symbol_place b j) (symbol_place b j + 0) (encode o numbers)
-    (has_same b (symbol_place b j) (symbol_row o name info other shndx value size) (encode o numbers) h (symbol_encoded o name info other shndx value size)) (sym (add-zero _))))
+    (read_all o b (symbol_offset b j) 0 numbers (name_fits, (tt, (tt, (shndx_fits, (value_fits, (size_fits, tt))))))
+    (has_at b (symbol_offset b j) (symbol_offset b j + 0) (encode o numbers)
+    (has_same b (symbol_offset b j) (symbol_row o name info other shndx value size) (encode o numbers) h (symbol_encoded o name info other shndx value size)) (sym (add-zero _))))
 
 -- ---- a row of a table of relocations
 
@@ -92,9 +92,9 @@ lower : (v symbol type : ℕ) → v ≡ type + 2 ^ 32 * symbol → type < 2 ^ 32
 lower v symbol type e lt = omega arith
 
 relocation_read : (b : List ℕ) (o : Order) (i k offset symbol type : ℕ) → order_of b ≡ o → type < 2 ^ 32
-    → Read o b (relocation_place b i k) 0 (long offset ∷ long (type + 2 ^ 32 * symbol) ∷ []) → HasRelocation b i k offset symbol type
+    → Read o b (relocation_offset b i k) 0 (long offset ∷ long (type + 2 ^ 32 * symbol) ∷ []) → HasRelocation b i k offset symbol type
 relocation_read b o i k offset symbol type order fits r =
-    let p = relocation_place b i k in
+    let p = relocation_offset b i k in
     let halves = long_is b o (p + 8) (type + 2 ^ 32 * symbol) order r.1.0 in
     record {
       offset_is = long_is b o p offset order (ap (λ (j : ℕ). word64_at o b j) (sym (add-zero p)) ∙ r.0);
@@ -102,15 +102,15 @@ relocation_read b o i k offset symbol type order fits r =
       type_is = lower (number.long b (p + 8)) symbol type halves fits;
     }
 
--- a relocation that was written at the place of the k-th one of a table
+-- a relocation that was written at the offset of the k-th one of a table
 pub has_relocation : (b : List ℕ) (o : Order) (i k offset symbol type : ℕ) → order_of b ≡ o → offset < 2 ^ 64 → symbol < 2 ^ 32 → type < 2 ^ 32
-    → HasBytes b (relocation_place b i k) (relocation_row o offset symbol type) → HasRelocation b i k offset symbol type
+    → HasBytes b (relocation_offset b i k) (relocation_row o offset symbol type) → HasRelocation b i k offset symbol type
 has_relocation b o i k offset symbol type order offset_fits symbol_fits type_fits h =
     let numbers = long offset ∷ long (type + 2 ^ 32 * symbol) ∷ [] in
     relocation_read b o i k offset symbol type order type_fits
-    (read_all o b (relocation_place b i k) 0 numbers (offset_fits, (omega arith, tt))
-    (has_at b (relocation_place b i k) (relocation_place b i k + 0) (encode o numbers)
-    (has_same b (relocation_place b i k) (relocation_row o offset symbol type) (encode o numbers) h (relocation_encoded o offset symbol type)) (sym (add-zero _))))
+    (read_all o b (relocation_offset b i k) 0 numbers (offset_fits, (omega arith, tt))
+    (has_at b (relocation_offset b i k) (relocation_offset b i k + 0) (encode o numbers)
+    (has_same b (relocation_offset b i k) (relocation_row o offset symbol type) (encode o numbers) h (relocation_encoded o offset symbol type)) (sym (add-zero _))))
 
 -- ---- tables in a file
 
@@ -123,8 +123,8 @@ module _ (b : List ℕ) (o : Order) (flags : ℕ) (s : ℕ → WrittenSection) (
   pub row_there : (k : ℕ) → k < m → HasBytes b (number.offset b (i + 1) + size * k) (row k)
   row_there k below =
       let at = (has_header b o flags s n is w i lt).offset in
-      has_at b (content_place s i + size * k) (number.offset b (i + 1) + size * k) (row k)
-      (row_here b (content_place s i) row size m k each below (has_same b (content_place s i) (s i).content (rows row m) (content_here b o flags s n is w i lt) table)) (omega arith)
+      has_at b (content_offset s i + size * k) (number.offset b (i + 1) + size * k) (row k)
+      (row_here b (content_offset s i) row size m k each below (has_same b (content_offset s i) (s i).content (rows row m) (content_here b o flags s n is w i lt) table)) (omega arith)
 
   -- sh_size is that of the rows, if the section has any bytes
   pub size_of_rows : ((s i).type == SHT_NOBITS) ≡ false → number.size b (i + 1) ≡ size * m
@@ -135,9 +135,9 @@ module _ (b : List ℕ) (o : Order) (flags : ℕ) (s : ℕ → WrittenSection) (
 module _ (b : List ℕ) (o : Order) (flags : ℕ) (s : ℕ → WrittenSection) (n : ℕ) (is : b ≡ file_of o flags s n) (w : IsWritable flags s n)
     (i : ℕ) (lt : i < n) (row : ℕ → List ℕ) (m : ℕ) where
   -- the symbols are in a section
-  pub symbol_here : ((k : ℕ) → length (row k) ≡ 24) → (s i).content ≡ rows row m → symbols b ≡ i + 1 → (j : ℕ) → j < m → HasBytes b (symbol_place b j) (row j)
+  pub symbol_here : ((k : ℕ) → length (row k) ≡ 24) → (s i).content ≡ rows row m → symbols b ≡ i + 1 → (j : ℕ) → j < m → HasBytes b (symbol_offset b j) (row j)
   symbol_here each table section j below =
-      has_at b (number.offset b (i + 1) + 24 * j) (symbol_place b j) (row j) (row_there b o flags s n is w i lt row 24 m each table j below)
+      has_at b (number.offset b (i + 1) + 24 * j) (symbol_offset b j) (row j) (row_there b o flags s n is w i lt row 24 m each table j below)
       (ap (λ (k : ℕ). number.offset b k + 24 * j) (sym section))
 
   pub symbol_count_is : ((k : ℕ) → length (row k) ≡ 24) → (s i).content ≡ rows row m → symbols b ≡ i + 1 → ((s i).type == SHT_NOBITS) ≡ false → symbol_count b ≡ m
@@ -145,7 +145,7 @@ module _ (b : List ℕ) (o : Order) (flags : ℕ) (s : ℕ → WrittenSection) (
       ap (λ (k : ℕ). number.size b k / 24) section ∙ counted (number.size b (i + 1)) m 24 (omega arith) (size_of_rows b o flags s n is w i lt row 24 m each table bits)
 
   -- the relocations of a table
-  pub relocation_here : ((k : ℕ) → length (row k) ≡ 16) → (s i).content ≡ rows row m → (k : ℕ) → k < m → HasBytes b (relocation_place b (i + 1) k) (row k)
+  pub relocation_here : ((k : ℕ) → length (row k) ≡ 16) → (s i).content ≡ rows row m → (k : ℕ) → k < m → HasBytes b (relocation_offset b (i + 1) k) (row k)
   relocation_here each table k below = row_there b o flags s n is w i lt row 16 m each table k below
 
   pub relocation_count_is : ((k : ℕ) → length (row k) ≡ 16) → (s i).content ≡ rows row m → ((s i).type == SHT_NOBITS) ≡ false → relocation_count b (i + 1) ≡ m

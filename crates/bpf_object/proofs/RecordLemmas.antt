@@ -7,7 +7,7 @@ use Rattle.btf_raw.specs.{Kinds.is_struct, Kinds.item_words, Kinds.has_item_name
 use Rattle.btf_raw.specs.Frames.{IsFrame, kind, vlen, flag, name_word}
 use Rattle.btf_raw.proofs.Texts.{TextAt-inside}
 use Rattle.btf_types.specs.{Reading.item_total, checks.FieldFaults.width, checks.FieldFaults.HasBitFields, checks.RecordFaults.BitFieldsAre}
-use Rattle.btf_types.specs.tables.PlaceWords.{ReadsRecord}
+use Rattle.btf_types.specs.tables.OffsetWords.{ReadsRecord}
 use Rattle.btf_types.proofs.{CheckLemmas.RoleSteps.struct_size, CheckLemmas.RoleSteps.named_words, FaultlessLemmas.FaultlessWords.item_ends, FaultlessLemmas.FaultlessWords.room}
 use Rattle.bpf_object.specs.{Types.item_name, Types.named_items, Types.is_flagged, Lines.any_of}
 use Rattle.bpf_object.proofs.TestLemmas.{any_found, any_none}

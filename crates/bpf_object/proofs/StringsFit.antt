@@ -9,7 +9,7 @@ use Rattle.bpf_elf.specs.Sections.{content, file_size}
 use Rattle.bpf_elf.specs.Symbols.{symbols, symbol_strings, has_one_string_table}
 use Rattle.bpf_elf.proofs.RuleLemmas.{first_hold}
 use Rattle.btf_raw.specs.Header.{HasNulEnds}
-use Rattle.bpf_canon.specs.btf.strings.{FirstUses.noted_all, NamesByPlace.NamesByPlace, DistinctNames.distinct_table}
+use Rattle.bpf_canon.specs.btf.strings.{FirstUses.noted_all, NamesByOffset.NamesByOffset, DistinctNames.distinct_table}
 use Rattle.btf_types.specs.Reading.{text_from}
 use Rattle.bpf_object.specs.{Canonical.strings_of, FileWith.strings_with}
 use Rattle.bpf_object.specs.FileStrings.{file_table, HasOwnStrings, section_strings, other_strings, all_strings, own_strings, file_offsets}
@@ -60,7 +60,7 @@ ends_with xs ys z h =
 pub all_ends : (b : List ℕ) → IsElf b → HasNulEnds (all_strings b)
 all_ends b h = ends_with (section_strings b) (other_strings b) 0 (ends_from_closed (section_strings b) (names_closed b h))
 
-pub own_strings_are : (b : List ℕ) (types extension : Option (Bor (List ℕ))) (names : NamesByPlace) (start : List ℕ) (has_types has_extension : Bool)
+pub own_strings_are : (b : List ℕ) (types extension : Option (Bor (List ℕ))) (names : NamesByOffset) (start : List ℕ) (has_types has_extension : Bool)
     → names.strings ≡ all_strings b → names.offsets ≡ noted_all start (file_offsets b has_types has_extension) → start ≡ [] → has_types ≡ is_some types
     → has_extension ≡ is_some extension → HasOwnStrings b (content_of types) (content_of extension) names
 own_strings_are b types extension names start has_types has_extension strings offsets none h k = record {
@@ -79,7 +79,7 @@ none_found n limit within =
     ]
 
 -- what is found of the noted strings
-pub found_is : (found : Option NamesByPlace) (strings all offsets offs : List ℕ) (limit : ℕ) → strings ≡ all → offsets ≡ offs
+pub found_is : (found : Option NamesByOffset) (strings all offsets offs : List ℕ) (limit : ℕ) → strings ≡ all → offsets ≡ offs
     → IfSome found (λ p. p.strings ≡ strings) → IfSome found (λ p. p.offsets ≡ offsets)
     → (IsSome found ↔ (length (distinct_table (map (text_from strings) offsets)) ≤ limit))
     → MatchOption found (limit < length (distinct_table (map (text_from all) offs))) (λ p. (p.strings ≡ all) × (p.offsets ≡ offs))
@@ -95,7 +95,7 @@ pub table_long : (b : List ℕ) (types extension : Option (Bor (List ℕ))) (lim
     → limit < length (strings_of (strings_with b (content_of types) (content_of extension)))
 table_long b types extension limit has_types has_extension elf h k long =
     let offs = file_offsets b (is_some (content_of types)) (is_some (content_of extension)) in
-    let names : NamesByPlace = record { strings = all_strings b; offsets = noted_all [] offs } in
+    let names : NamesByOffset = record { strings = all_strings b; offsets = noted_all [] offs } in
     let own : HasOwnStrings b (content_of types) (content_of extension) names = record { strings = refl; offsets = refl } in
     let has : limit < length (file_table b (is_some (content_of types)) (is_some (content_of extension))) =
     subst (λ (x : Bool). limit < length (file_table b x (is_some (content_of extension)))) (h ∙ sym (content_some types))

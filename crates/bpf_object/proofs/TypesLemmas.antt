@@ -4,7 +4,7 @@ use Rattle.std.specs.{Prelude.slice_get, List.concat}
 use Rattle.std.proofs.lemmas.Option.{slice_get_within, get_or_from_slice_get}
 use Rattle.btf_types.specs.{Denotes.HoldsSections, Sections.SectionWords}
 use Rattle.btf_types.proofs.CheckLemmas.SectionSteps.{length-section}
-use Rattle.bpf_object.specs.{Types.record_place, Types.record_rules, Types.rules_of}
+use Rattle.bpf_object.specs.{Types.record_offset, Types.record_rules, Types.rules_of}
 
 words_to : (fs : List (List ℕ)) (k : ℕ) → k < length fs → length (concat (take (suc k) fs)) ≡ length (concat (take k fs)) + length (get_or fs k [])
 words_to [] k lt = absurd (omega (arith, lt))
@@ -34,7 +34,7 @@ record_at fs k f found =
 pub numbered_record : (fs : List (List ℕ)) (k : ℕ) (f : List ℕ) → slice_get fs (k + 1 - 1) ≡ Some f → IsRecordAt fs k f
 numbered_record fs k f found = let at : k + 1 - 1 ≡ k = omega arith in record_at fs k f (rw at at found)
 
-pub same_rules : (first : ℕ) (s : SectionWords) (k : ℕ) (strings : List ℕ) (pos : ℕ) (f : List ℕ) → strings ≡ s.strings → pos ≡ record_place first s k → get_or s.frames k [] ≡ f
+pub same_rules : (first : ℕ) (s : SectionWords) (k : ℕ) (strings : List ℕ) (pos : ℕ) (f : List ℕ) → strings ≡ s.strings → pos ≡ record_offset first s k → get_or s.frames k [] ≡ f
     → rules_of first s k ≡ record_rules strings pos f
 same_rules first s k strings pos f of at is = rw (of, at, is) refl
 

@@ -8,10 +8,10 @@ use Rattle.btf_raw.specs.Header.{header}
 use Rattle.btf_raw.proofs.{Cuts.length-header, Frames.length-bytes_of}
 use Rattle.btf_types.specs.Encoding.{head_tail}
 use Rattle.btf_types.specs.Values.{TypeItem, Member, EnumValue, Value64, Param, Entry, TypeRecord}
-use Rattle.btf_types.specs.{Sections.SectionWords, Sections.records_in, strings.StringTable.place_of, tables.TableInvariant.IsTable}
+use Rattle.btf_types.specs.{Sections.SectionWords, Sections.records_in, strings.StringTable.offset_of, tables.TableInvariant.IsTable}
 use Rattle.bpf_canon.specs.btf.CanonicalBtf.{words_of_item, record_words}
 use Rattle.bpf_canon.proofs.BtfLemmas.Write.SectionFiles.{types_same}
-use Rattle.bpf_canon.specs.btf.strings.{NamesByPlace.NamesByPlace, NamesByPlace.placed_texts, DistinctNames.distinct_table}
+use Rattle.bpf_canon.specs.btf.strings.{NamesByOffset.NamesByOffset, NamesByOffset.placed_texts, DistinctNames.distinct_table}
 use Rattle.bpf_object.specs.Canonical.{types_bytes}
 use Rattle.bpf_object.specs.NotedStrings.{placed}
 use Rattle.bpf_object.specs.WrittenTypes.{written_btf}
@@ -61,10 +61,10 @@ module _ (p q : List ℕ → ℕ) where
 pub types_length : (s : SectionWords) → IsTable s → (from o : Order) (place : List ℕ → ℕ) (types : List ℕ) → types ≡ section_of from s.frames
     → length (types_bytes o place (records_in s)) ≡ length types
 types_length s table from o place types is =
-    records_length place (place_of (records_in s)) o (records_in s) ∙ sym (types_same s table from o types is)
+    records_length place (offset_of (records_in s)) o (records_in s) ∙ sym (types_same s table from o types is)
 
 -- .BTF with these strings
-module _ (o : Order) (s : SectionWords) (names : NamesByPlace) (types_len table_len : ℕ) (types_is : length (types_bytes o (placed names) (records_in s)) ≡ types_len)
+module _ (o : Order) (s : SectionWords) (names : NamesByOffset) (types_len table_len : ℕ) (types_is : length (types_bytes o (placed names) (records_in s)) ≡ types_len)
     (table_is : table_len ≡ length (distinct_table (placed_texts names))) where
   abbrev types : List ℕ
   types = types_bytes o (placed names) (records_in s)

@@ -4,7 +4,7 @@ use Rattle.std.specs.List.{All, Contains, flat_map}
 use Rattle.std.proofs.lemmas.List.{take_more, Concat.flat_map-append, Elements.All-head, Elements.All-tail}
 use Rattle.bpf_elf.specs.Names.{string_at}
 use Rattle.btf_types.specs.Reading.{text_from}
-use Rattle.bpf_canon.specs.btf.strings.{NamesByPlace.NamesByPlace, NamesByPlace.placed_texts, DistinctNames.distinct_place}
+use Rattle.bpf_canon.specs.btf.strings.{NamesByOffset.NamesByOffset, NamesByOffset.placed_texts, DistinctNames.distinct_offset}
 use Rattle.bpf_object.specs.declared.{extension.Part.Part, source.Source.Source}
 use Rattle.bpf_object.specs.declared.extension.Part.TheVariants.{Relocations}
 use Rattle.bpf_object.specs.Extension.{Section, group_name, group_count}
@@ -20,17 +20,17 @@ use Rattle.bpf_object.proofs.ReadBackStrings.{string_is_text}
 pub each_listed : {A : Type 0} (P : A → Type 0) (f : ℕ → A) (n k : ℕ) → All P (listed all f n) → k < n → P (f k)
 each_listed P f n k each lt = subst P (get-all f n k (f k) lt) (each k (f k) (rw (length-all f n) lt))
 
--- the place of a string that is noted by its offset
-pub placed_at : (names : NamesByPlace) (strings : List ℕ) (off place : ℕ) → names.strings ≡ strings
-    → place ≡ distinct_place (placed_texts names) (text_from names.strings off) → place ≡ placed names (string_at strings off)
+-- the offset of a string that is noted by its offset
+pub placed_at : (names : NamesByOffset) (strings : List ℕ) (off place : ℕ) → names.strings ≡ strings
+    → place ≡ distinct_offset (placed_texts names) (text_from names.strings off) → place ≡ placed names (string_at strings off)
 placed_at names strings off place same is =
-    is ∙ ap (λ (s : List ℕ). distinct_place (placed_texts names) (text_from s off)) same
-    ∙ ap (distinct_place (placed_texts names)) (sym (string_is_text strings off))
+    is ∙ ap (λ (s : List ℕ). distinct_offset (placed_texts names) (text_from s off)) same
+    ∙ ap (distinct_offset (placed_texts names)) (sym (string_is_text strings off))
 
-pub name_noted : (names : NamesByPlace) (x : Source) (p : Part) (g : ℕ) → HasStrings names x p g → Contains names.offsets (group_name (section x) g)
+pub name_noted : (names : NamesByOffset) (x : Source) (p : Part) (g : ℕ) → HasStrings names x p g → Contains names.offsets (group_name (section x) g)
 name_noted names x p g has = All-head (Contains names.offsets) (group_name (section x) g) (record_offsets (section x) p g) has.noted
 
-pub access_noted : (names : NamesByPlace) (x : Source) (g k : ℕ) → HasStrings names x Relocations g → k < group_count (section x) g
+pub access_noted : (names : NamesByOffset) (x : Source) (g k : ℕ) → HasStrings names x Relocations g → k < group_count (section x) g
     → Contains names.offsets (access_off (section x) g k)
 access_noted names x g k has lt =
     each_listed (Contains names.offsets) (access_off (section x) g) (group_count (section x) g) k

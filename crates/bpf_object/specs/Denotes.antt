@@ -3,11 +3,11 @@ use Rattle.std.specs.Prelude.{◌≡◌, ℕ, ◌+◌, ◌<◌, ◌==◌, ◌&&�
 use Rattle.bpf_words.specs.declared.Order.{Order}
 use Rattle.bpf_elf.specs.declared.kinds.Kind.TheVariants.{Types, Extension}
 use Rattle.bpf_elf.specs.{Rules.rule, Rules.AllHold, ElfRules.IsElf, Header.FILE_LIMIT, Header.SHN_LORESERVE}
-use Rattle.bpf_elf.specs.Numbers.{order_of, flags_of, count, place, offset}
+use Rattle.bpf_elf.specs.Numbers.{order_of, flags_of, count, header_offset, offset}
 use Rattle.bpf_elf.specs.Sections.{content, section_of}
 use Rattle.btf_types.specs.Sections.{SectionWords, records_in}
 use Rattle.bpf_object.specs.declared.fault.ObjectCause.TheVariants as cause
-use Rattle.bpf_object.specs.Canonical.{btf_bytes, extension_bytes, place_of, types_strings, has_extension, written_sections, canonical}
+use Rattle.bpf_object.specs.Canonical.{btf_bytes, extension_bytes, offset_of, types_strings, has_extension, written_sections, canonical}
 use Rattle.bpf_object.specs.Extension.{Section}
 use Rattle.bpf_object.specs.Faults.{ObjectRule}
 use Rattle.bpf_object.specs.Groups.{function_groups, relocation_groups}
@@ -25,7 +25,7 @@ extension_at b = section_of b Extension (count b)
 
 -- .BTF of a file
 abbrev pub types_of : List ℕ → TypesSection
-types_of b = record { order = order_of b; place = place b (types_at b); start = offset b (types_at b); bytes = content b (types_at b) }
+types_of b = record { order = order_of b; header_offset = header_offset b (types_at b); start = offset b (types_at b); bytes = content b (types_at b) }
 
 -- .BTF.ext of a file, with these strings of .BTF; it is empty if there is none
 abbrev pub extension_of : List ℕ → List ℕ → Section
@@ -42,7 +42,7 @@ rules_of_extension b strings = if extension_at b == 0 then [] else extension_rul
 
 -- and without .BTF there is none: this is reported at its section header
 abbrev pub without_types_rules : List ℕ → List ObjectRule
-without_types_rules b = rule cause.ExtensionWithoutTypes (place b (extension_at b)) (extension_at b == 0) ∷ []
+without_types_rules b = rule cause.ExtensionWithoutTypes (header_offset b (extension_at b)) (extension_at b == 0) ∷ []
 
 -- the types, and what .BTF.ext says with their strings
 abbrev pub object_types : SectionWords → Section → ObjectTypes
@@ -74,7 +74,7 @@ object_of b types = record {
 abbrev pub both_fit : Order → ObjectTypes → Bool
 both_fit o t =
     nat_le (length (btf_bytes o t)) 15728640
-    && (if has_extension t then nat_le (length (extension_bytes o (place_of (types_strings t)) t)) FILE_LIMIT else true)
+    && (if has_extension t then nat_le (length (extension_bytes o (offset_of (types_strings t)) t)) FILE_LIMIT else true)
 
 abbrev pub types_fit : Object → Bool
 types_fit x = elim x.types [ None ↦ true | Some t ↦ both_fit x.order t ]

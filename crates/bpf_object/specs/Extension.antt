@@ -56,11 +56,11 @@ abbrev pub group_count : Section → ℕ → ℕ
 group_count x g = word x (g + 4)
 
 -- where the record of a group is, and where the next group begins
-abbrev pub record_place : Part → ℕ → ℕ → ℕ
-record_place p g k = g + 8 + record_size p * k
+abbrev pub record_offset : Part → ℕ → ℕ → ℕ
+record_offset p g k = g + 8 + record_size p * k
 
 abbrev pub next_group : Section → Part → ℕ → ℕ
-next_group x p g = record_place p g (group_count x g)
+next_group x p g = record_offset p g (group_count x g)
 
 -- the groups from one on, up to the end of the part; n is at least their number
 abbrev pub groups_from : Section → Part → ℕ → ℕ → List ℕ

@@ -49,8 +49,8 @@ contents section zero = []
 contents section (suc n) = contents section n ++ ((section n).content ++ padding (length (section n).content))
 
 -- where the content of a section is: the first one follows the header
-abbrev pub content_place : (ℕ → WrittenSection) → ℕ → ℕ
-content_place section n = 64 + length (contents section n)
+abbrev pub content_offset : (ℕ → WrittenSection) → ℕ → ℕ
+content_offset section n = 64 + length (contents section n)
 
 -- the header of a section whose content is at an offset
 abbrev pub section_header : Order → WrittenSection → ℕ → List ℕ
@@ -61,9 +61,9 @@ section_header o s offset =
 -- the section header table: the zero row, and the headers of the first n sections
 abbrev pub section_headers : Order → (ℕ → WrittenSection) → ℕ → List ℕ
 section_headers o section zero = replicate 64 0
-section_headers o section (suc n) = section_headers o section n ++ section_header o (section n) (content_place section n)
+section_headers o section (suc n) = section_headers o section n ++ section_header o (section n) (content_offset section n)
 
 -- the file of n sections
 abbrev pub file_of : Order → ℕ → (ℕ → WrittenSection) → ℕ → List ℕ
 file_of o flags section n =
-    (ident o ++ (file_type o ++ file_table o flags (content_place section n) (n + 1))) ++ (contents section n ++ section_headers o section n)
+    (ident o ++ (file_type o ++ file_table o flags (content_offset section n) (n + 1))) ++ (contents section n ++ section_headers o section n)

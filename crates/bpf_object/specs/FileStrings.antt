@@ -3,7 +3,7 @@ use Rattle.std.specs.Prelude.{◌≡◌, ℕ, ◌+◌, Bool, List, [], ◌∷◌
 use Rattle.bpf_elf.specs.Numbers.{count, names, name_off}
 use Rattle.bpf_elf.specs.Sections.{content}
 use Rattle.bpf_elf.specs.Symbols.{symbol_count, symbol_strings, has_one_string_table, is_kept_symbol, st_name}
-use Rattle.bpf_canon.specs.btf.strings.{FirstUses.noted_all, NamesByPlace.NamesByPlace, DistinctNames.distinct_table}
+use Rattle.bpf_canon.specs.btf.strings.{FirstUses.noted_all, NamesByOffset.NamesByOffset, DistinctNames.distinct_table}
 use Rattle.btf_types.specs.Reading.{text_from}
 use Rattle.bpf_object.specs.declared.file_strings.OwnSection.{OwnSection}
 use Rattle.bpf_object.specs.declared.file_strings.OwnSection.TheVariants.{Types, Extension, Symbols, Strings}
@@ -70,13 +70,13 @@ abbrev pub file_table : List ℕ → Bool → Bool → List ℕ
 file_table b has_types has_extension = distinct_table (map (text_from (all_strings b)) (noted_all [] (file_offsets b has_types has_extension)))
 
 -- they have been noted
-pub record HasFileStrings (b : List ℕ) (names : NamesByPlace) : Type 0 where
+pub record HasFileStrings (b : List ℕ) (names : NamesByOffset) : Type 0 where
   pub has_types : Bool
   pub has_extension : Bool
   pub strings : names.strings ≡ all_strings b
   pub offsets : names.offsets ≡ noted_all [] (file_offsets b has_types has_extension)
 
 -- and those of a file with these bytes of .BTF and .BTF.ext
-pub record HasOwnStrings (b : List ℕ) (types extension : Option (List ℕ)) (names : NamesByPlace) : Type 0 where
+pub record HasOwnStrings (b : List ℕ) (types extension : Option (List ℕ)) (names : NamesByOffset) : Type 0 where
   pub strings : names.strings ≡ all_strings b
   pub offsets : names.offsets ≡ noted_all [] (file_offsets b (is_some types) (is_some extension))

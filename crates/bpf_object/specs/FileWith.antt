@@ -3,7 +3,7 @@ use Rattle.std.specs.Prelude.{◌≡◌, true, false, MatchOption, Vec, ℕ, ◌
 use Rattle.std.specs.List.{flat_map}
 use Rattle.bpf_elf.specs.{Header.FILE_LIMIT, Header.SHN_LORESERVE, Numbers.order_of, Numbers.flags_of}
 use Rattle.bpf_elf.specs.Kinds.{SHT_PROGBITS, SHT_SYMTAB, SHT_STRTAB}
-use Rattle.bpf_object.specs.Canonical.{btf_bytes, extension_bytes, types_strings, has_extension, strings_of, place_of, symbol_bytes, first_global, written_section, own_section}
+use Rattle.bpf_object.specs.Canonical.{btf_bytes, extension_bytes, types_strings, has_extension, strings_of, offset_of, symbol_bytes, first_global, written_section, own_section}
 use Rattle.bpf_object.specs.File.{WrittenSection, file_of}
 use Rattle.bpf_object.specs.Objects.{ObjectTypes}
 use Rattle.bpf_words.specs.declared.Order.{Order}
@@ -17,7 +17,7 @@ btf_content o (Some t) = Some (btf_bytes o t)
 
 abbrev pub extension_content : Order → Option ObjectTypes → Option (List ℕ)
 extension_content o None = None
-extension_content o (Some t) = if has_extension t then Some (extension_bytes o (place_of (types_strings t)) t) else None
+extension_content o (Some t) = if has_extension t then Some (extension_bytes o (offset_of (types_strings t)) t) else None
 
 -- the name of a section, if there is one
 abbrev pub name_with : List ℕ → Option (List ℕ) → List (List ℕ)
@@ -34,8 +34,8 @@ strings_with b types extension =
 
 -- a section of this content, if there is one
 abbrev pub section_with : (List ℕ → ℕ) → List ℕ → Option (List ℕ) → List WrittenSection
-section_with place name None = []
-section_with place name (Some content) = own_section (place name) SHT_PROGBITS content 0 0 4 0 ∷ []
+section_with new_offset name None = []
+section_with new_offset name (Some content) = own_section (new_offset name) SHT_PROGBITS content 0 0 4 0 ∷ []
 
 -- the number of .symtab
 abbrev pub symtab_with : List ℕ → Option (List ℕ) → Option (List ℕ) → ℕ
@@ -43,15 +43,15 @@ symtab_with b types extension = 1 + length (kept_sections b) + length (names_wit
 
 abbrev pub last_with : List ℕ → List (List ℕ) → ℕ → List WrittenSection
 last_with b strings symtab =
-    own_section (place_of strings (codes ".symtab")) SHT_SYMTAB (flat_map (symbol_bytes (order_of b) (place_of strings)) (kept_symbols b)) (symtab + 1)
+    own_section (offset_of strings (codes ".symtab")) SHT_SYMTAB (flat_map (symbol_bytes (order_of b) (offset_of strings)) (kept_symbols b)) (symtab + 1)
     (first_global (kept_symbols b)) 8 24
-    ∷ own_section (place_of strings (codes ".strtab")) SHT_STRTAB (strings_of strings) 0 0 1 0 ∷ []
+    ∷ own_section (offset_of strings (codes ".strtab")) SHT_STRTAB (strings_of strings) 0 0 1 0 ∷ []
 
 -- all sections, if .strtab has these strings
 abbrev pub sections_among : List ℕ → Option (List ℕ) → Option (List ℕ) → List (List ℕ) → List WrittenSection
 sections_among b types extension strings =
-    map (written_section (order_of b) (place_of strings) (symtab_with b types extension)) (kept_sections b)
-    ++ ((section_with (place_of strings) (codes ".BTF") types ++ section_with (place_of strings) (codes ".BTF.ext") extension)
+    map (written_section (order_of b) (offset_of strings) (symtab_with b types extension)) (kept_sections b)
+    ++ ((section_with (offset_of strings) (codes ".BTF") types ++ section_with (offset_of strings) (codes ".BTF.ext") extension)
     ++ last_with b strings (symtab_with b types extension))
 
 abbrev pub sections_with : List ℕ → Option (List ℕ) → Option (List ℕ) → List WrittenSection

@@ -2,26 +2,26 @@
 use Rattle.std.specs.Prelude.{ℕ, true, ◌+◌, List, map}
 use Rattle.bpf_elf.specs.Names.{string_at}
 use Rattle.bpf_object.specs.declared.extension.Part.TheVariants.{Functions, Relocations}
-use Rattle.bpf_object.specs.Extension.{Section, word, group_count, groups, record_place}
+use Rattle.bpf_object.specs.Extension.{Section, word, group_count, groups, record_offset}
 use Rattle.bpf_object.specs.Kept.{listed}
 use Rattle.bpf_object.specs.Lines.{name_of}
 use Rattle.bpf_object.specs.Objects.{Function, CoreRelocation, Group}
 
 -- insn_off and type_id of a function
 abbrev pub function_at : Section → ℕ → ℕ → Function
-function_at x g k = record { offset = word x (record_place Functions g k); type = word x (record_place Functions g k + 4) }
+function_at x g k = record { offset = word x (record_offset Functions g k); type = word x (record_offset Functions g k + 4) }
 
 -- access_str_off of a CO-RE relocation
 abbrev pub access_off : Section → ℕ → ℕ → ℕ
-access_off x g k = word x (record_place Relocations g k + 8)
+access_off x g k = word x (record_offset Relocations g k + 8)
 
 -- insn_off, type_id, the access string and the kind of a CO-RE relocation
 abbrev pub relocation_at : Section → ℕ → ℕ → CoreRelocation
 relocation_at x g k = record {
-  offset = word x (record_place Relocations g k);
-  type = word x (record_place Relocations g k + 4);
+  offset = word x (record_offset Relocations g k);
+  type = word x (record_offset Relocations g k + 4);
   access = string_at x.strings (access_off x g k);
-  kind = word x (record_place Relocations g k + 12);
+  kind = word x (record_offset Relocations g k + 12);
 }
 
 abbrev pub function_group : Section → ℕ → Group Function

@@ -6,7 +6,7 @@ use Rattle.bpf_elf.specs.Names.{string_at}
 use Rattle.bpf_object.specs.declared.fault.ObjectCause.TheVariants as cause
 use Rattle.bpf_object.specs.declared.extension.Part.{Part, TheVariants.Functions, TheVariants.Lines, TheVariants.Relocations}
 use Rattle.bpf_object.specs.Faults.{ObjectRule}
-use Rattle.bpf_object.specs.Extension.{Section, word, group_name, group_count, groups, record_place, head_rules, part_rules}
+use Rattle.bpf_object.specs.Extension.{Section, word, group_name, group_count, groups, record_offset, head_rules, part_rules}
 
 -- the name of the section of a group
 abbrev pub name_of : Section → ℕ → List ℕ
@@ -14,7 +14,7 @@ name_of x g = string_at x.strings (group_name x g)
 
 -- insn_off of a record
 abbrev pub insn_off : Section → Part → ℕ → ℕ → ℕ
-insn_off x p g k = word x (record_place p g k)
+insn_off x p g k = word x (record_offset p g k)
 
 -- all of the first n numbers, or one of them, pass a test
 abbrev pub all_of : ℕ → (ℕ → Bool) → Bool
@@ -51,7 +51,7 @@ pairs_rules x (f ∷ fs) (l ∷ ls) = rule cause.ExtensionLines (x.start + f) (i
 -- access_str_off of a CO-RE relocation
 abbrev pub access_rules : Section → ℕ → ℕ → List ObjectRule
 access_rules x g k =
-    rule cause.ExtensionString (x.start + record_place Relocations g k + 8) (nat_lt (word x (record_place Relocations g k + 8)) (length x.strings)) ∷ []
+    rule cause.ExtensionString (x.start + record_offset Relocations g k + 8) (nat_lt (word x (record_offset Relocations g k + 8)) (length x.strings)) ∷ []
 
 abbrev pub accesses_rules : Section → List ℕ → List ObjectRule
 accesses_rules x [] = []

@@ -1,16 +1,16 @@
 -- The strings of .BTF.ext, whose new places are known.
 use Rattle.std.specs.Prelude.{◌≡◌, ℕ, ◌<◌, List, length}
 use Rattle.std.specs.List.{All, Contains}
-use Rattle.bpf_canon.specs.btf.strings.{NamesByPlace.NamesByPlace, NamesByPlace.placed_texts, DistinctNames.distinct_place}
+use Rattle.bpf_canon.specs.btf.strings.{NamesByOffset.NamesByOffset, NamesByOffset.placed_texts, DistinctNames.distinct_offset}
 use Rattle.bpf_object.specs.declared.{extension.Part.Part, source.Source.Source}
 use Rattle.bpf_object.specs.declared.extension.Part.TheVariants.{Relocations}
 use Rattle.bpf_object.specs.Extension.{groups}
 use Rattle.bpf_object.specs.Sources.{section, HasParts}
 use Rattle.bpf_object.specs.WrittenGroups.{group_offsets}
 
--- the place of a string among these
-abbrev pub placed : NamesByPlace → List ℕ → ℕ
-placed names = distinct_place (placed_texts names)
+-- the offset of a string among these
+abbrev pub placed : NamesByOffset → List ℕ → ℕ
+placed names = distinct_offset (placed_texts names)
 
 -- the strings of a group are inside the strings of .BTF
 pub record AreInside (x : Source) (p : Part) (g : ℕ) : Type 0 where
@@ -22,6 +22,6 @@ pub record IsChecked (x : Source) : Type 0 where
   pub inside : All (AreInside x Relocations) (groups (section x) Relocations)
 
 -- the strings of a group are among these
-pub record HasStrings (names : NamesByPlace) (x : Source) (p : Part) (g : ℕ) : Type 0 where
+pub record HasStrings (names : NamesByOffset) (x : Source) (p : Part) (g : ℕ) : Type 0 where
   pub strings : names.strings ≡ x.strings.now
   pub noted : All (Contains names.offsets) (group_offsets (section x) p g)

@@ -1,7 +1,7 @@
 -- The contents that are written anew.
 use Rattle.std.specs.Prelude.{◌≡◌, ℕ, ◌+◌, ◌*◌, ◌&&◌, nat_lt, nat_le, slice_index_or, Bool, Option, is_some, List, [], ◌∷◌, ◌++◌, length, codes, if◌then◌else◌}
 use Rattle.bpf_elf.specs.{Numbers.count, Symbols.symbol_count}
-use Rattle.bpf_canon.specs.btf.strings.NamesByPlace.{NamesByPlace}
+use Rattle.bpf_canon.specs.btf.strings.NamesByOffset.{NamesByOffset}
 use Rattle.bpf_object.specs.declared.object_writer.Parts.{Parts}
 use Rattle.bpf_object.specs.Kept.{is_kept_section, kept_sections, numbers}
 use Rattle.bpf_object.specs.{FileWith.section_with, SectionRows.written_kept}
@@ -9,13 +9,13 @@ use Rattle.bpf_object.specs.NotedStrings.{placed}
 use Rattle.bpf_object.specs.SymbolRows.{symbols_bytes, globals_from}
 use Rattle.bpf_elf.specs.Kinds.{SHT_SYMTAB, SHT_STRTAB}
 use Rattle.bpf_object.specs.Canonical.{own_section}
-use Rattle.bpf_object.specs.File.{WrittenSection, content_place, file_of}
+use Rattle.bpf_object.specs.File.{WrittenSection, content_offset, file_of}
 use Rattle.bpf_words.specs.declared.Order.{Order}
 use Rattle.bpf_object.specs.WrittenSections.{no_section}
 use Rattle.bpf_elf.specs.Header.{FILE_LIMIT, SHN_LORESERVE}
 use Rattle.bpf_object.specs.Tables.{tables_bytes}
 
-pub record AreParts {A : Type 0} (b : List ℕ) (names : NamesByPlace) (p : Parts A) : Type 0 where
+pub record AreParts {A : Type 0} (b : List ℕ) (names : NamesByOffset) (p : Parts A) : Type 0 where
   pub numbers : p.numbers.items ≡ numbers (is_kept_section b) (count b)
   pub rows : p.rows.items ≡ tables_bytes b (count b)
   pub symbols : p.symbols.items ≡ symbols_bytes b (placed names) (symbol_count b)
@@ -26,9 +26,9 @@ bool_number there = if there then 1 else 0
 
 -- .symtab and .strtab of these contents
 abbrev pub last_sections : List ℕ → (List ℕ → ℕ) → ℕ → List ℕ → List ℕ → List WrittenSection
-last_sections b place symtab symbols strings =
-    own_section (place (codes ".symtab")) SHT_SYMTAB symbols (symtab + 1) (globals_from b (symbol_count b)) 8 24
-    ∷ own_section (place (codes ".strtab")) SHT_STRTAB strings 0 0 1 0 ∷ []
+last_sections b new_offset symtab symbols strings =
+    own_section (new_offset (codes ".symtab")) SHT_SYMTAB symbols (symtab + 1) (globals_from b (symbol_count b)) 8 24
+    ∷ own_section (new_offset (codes ".strtab")) SHT_STRTAB strings 0 0 1 0 ∷ []
 
 -- the number of .symtab
 abbrev pub symtab_of : List ℕ → Option (List ℕ) → Option (List ℕ) → ℕ
@@ -36,17 +36,17 @@ symtab_of b types extension = 1 + length (kept_sections b) + bool_number (is_som
 
 -- all sections
 abbrev pub all_sections : List ℕ → (List ℕ → ℕ) → Option (List ℕ) → Option (List ℕ) → List ℕ → List ℕ → List WrittenSection
-all_sections b place types extension symbols strings =
-    written_kept b place (symtab_of b types extension) (count b)
-    ++ ((section_with place (codes ".BTF") types ++ section_with place (codes ".BTF.ext") extension)
-    ++ last_sections b place (symtab_of b types extension) symbols strings)
+all_sections b new_offset types extension symbols strings =
+    written_kept b new_offset (symtab_of b types extension) (count b)
+    ++ ((section_with new_offset (codes ".BTF") types ++ section_with new_offset (codes ".BTF.ext") extension)
+    ++ last_sections b new_offset (symtab_of b types extension) symbols strings)
 
 -- a file of these sections isn't larger than a file may be: the content of the last one is followed by the section header table
-abbrev pub place_after : List WrittenSection → ℕ
-place_after sections = content_place (λ k. slice_index_or sections k no_section) (length sections)
+abbrev pub offset_after : List WrittenSection → ℕ
+offset_after sections = content_offset (λ k. slice_index_or sections k no_section) (length sections)
 
 abbrev pub is_file_small : List WrittenSection → Bool
-is_file_small sections = nat_lt (length sections + 1) SHN_LORESERVE && nat_le (place_after sections + 64 * (length sections + 1)) FILE_LIMIT
+is_file_small sections = nat_lt (length sections + 1) SHN_LORESERVE && nat_le (offset_after sections + 64 * (length sections + 1)) FILE_LIMIT
 
 abbrev pub file_by : Order → ℕ → List WrittenSection → List ℕ
 file_by o flags sections = file_of o flags (λ k. slice_index_or sections k no_section) (length sections)

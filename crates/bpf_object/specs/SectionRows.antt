@@ -7,8 +7,8 @@ use Rattle.bpf_object.specs.Kept.{listed, is_kept_section, kept_section}
 
 -- a section, if it is kept
 abbrev pub written_if_kept : List ℕ → (List ℕ → ℕ) → ℕ → ℕ → List WrittenSection
-written_if_kept b place link i = if is_kept_section b i then written_section (order_of b) place link (kept_section b i) ∷ [] else []
+written_if_kept b new_offset link i = if is_kept_section b i then written_section (order_of b) new_offset link (kept_section b i) ∷ [] else []
 
 -- those among the first n sections
 abbrev pub written_kept : List ℕ → (List ℕ → ℕ) → ℕ → ℕ → List WrittenSection
-written_kept b place link n = map (written_section (order_of b) place link) (listed (is_kept_section b) (kept_section b) n)
+written_kept b new_offset link n = map (written_section (order_of b) new_offset link) (listed (is_kept_section b) (kept_section b) n)

@@ -9,7 +9,7 @@ use Rattle.bpf_elf.specs.Sections.{content, name}
 use Rattle.bpf_object.specs.declared.extension.Part.{Part, TheVariants.Lines}
 use Rattle.bpf_object.specs.declared.source_lines.SourceLine.{SourceLine}
 use Rattle.bpf_object.specs.Denotes.{types_at, extension_of}
-use Rattle.bpf_object.specs.Extension.{Section, word, group_count, groups, record_place}
+use Rattle.bpf_object.specs.Extension.{Section, word, group_count, groups, record_offset}
 use Rattle.bpf_object.specs.Lines.{name_of, insn_off}
 
 -- the strings of .BTF of a file: its header has str_off, and str_len at offset 20
@@ -30,10 +30,10 @@ pub record Line : Type 0 where
 
 -- a record has insn_off, file_name_off, line_off and line_col, of 4 bytes each
 abbrev pub file_name_off : Section → ℕ → ℕ → ℕ
-file_name_off x g k = word x (record_place Lines g k + 4)
+file_name_off x g k = word x (record_offset Lines g k + 4)
 
 abbrev pub line_col : Section → ℕ → ℕ → ℕ
-line_col x g k = word x (record_place Lines g k + 12)
+line_col x g k = word x (record_offset Lines g k + 12)
 
 -- the line of a record, if file_name_off is inside the strings: line_col has the number of the line above its 10 lowest bits, and the column in them
 abbrev pub line_at : Section → ℕ → ℕ → Option Line

@@ -11,7 +11,7 @@ abbrev pub section : Source → Section
 section x = record { order = x.order; start = x.start; bytes = x.bytes.now; strings = x.strings.now }
 
 abbrev pub types_section : TypesSource → TypesSection
-types_section x = record { order = x.order; place = x.place; start = x.start; bytes = x.bytes.now }
+types_section x = record { order = x.order; header_offset = x.header_offset; start = x.start; bytes = x.bytes.now }
 
 -- the strings are a string table, and the section is in a file of at most 64 MiB
 pub record IsSource (x : Source) : Type 0 where

@@ -15,7 +15,7 @@ symbol_row o name info other section value size =
 
 -- those among the first n symbols
 abbrev pub symbols_bytes : List ℕ → (List ℕ → ℕ) → ℕ → List ℕ
-symbols_bytes b place n = flat_map (symbol_bytes (order_of b) place) (listed (is_kept_symbol b) (kept_symbol b) n)
+symbols_bytes b new_offset n = flat_map (symbol_bytes (order_of b) new_offset) (listed (is_kept_symbol b) (kept_symbol b) n)
 
 -- the number after the last local one among them
 abbrev pub globals_from : List ℕ → ℕ → ℕ

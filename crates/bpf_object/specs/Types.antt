@@ -13,13 +13,13 @@ use Rattle.bpf_object.specs.Lines.{any_of}
 -- the section: the byte order of the file, where the header of the section and the section are in it, and its bytes
 pub record TypesSection : Type 0 where
   pub order : Order
-  pub place : ℕ
+  pub header_offset : ℕ
   pub start : ℕ
   pub bytes : List ℕ
 
 -- it has at most 15 MiB: sh_size is at offset 32 of its header
 abbrev pub size_rules : TypesSection → List ObjectRule
-size_rules x = rule cause.TypesTooLarge (x.place + 32) (nat_le (length x.bytes) 15728640) ∷ []
+size_rules x = rule cause.TypesTooLarge (x.header_offset + 32) (nat_le (length x.bytes) 15728640) ∷ []
 
 -- two byte orders are the same
 abbrev pub is_order : Order → Order → Bool
@@ -34,7 +34,7 @@ form_rules x s =
     ∷ rule cause.TypesLayout (x.start + 8) (word32_at s.order x.bytes 8 == 0)
     ∷ []
 
--- ---- a record at a place of the file
+-- ---- a record at an offset of the file
 
 -- a name_off is 0, or leads to a name
 abbrev pub leads_to_name : List ℕ → ℕ → Bool
@@ -79,12 +79,12 @@ abbrev pub records_start : TypesSection → SectionWords → ℕ
 records_start x s = x.start + word32_at s.order x.bytes 4
 
 -- where record k is, if the first one is at start: four bytes for each field of those before it
-abbrev pub record_place : ℕ → SectionWords → ℕ → ℕ
-record_place start s k = start + 4 * length (concat (take k s.frames))
+abbrev pub record_offset : ℕ → SectionWords → ℕ → ℕ
+record_offset start s k = start + 4 * length (concat (take k s.frames))
 
 -- the rules on record k
 abbrev pub rules_of : ℕ → SectionWords → ℕ → List ObjectRule
-rules_of start s k = record_rules s.strings (record_place start s k) (slice_index_or s.frames k [])
+rules_of start s k = record_rules s.strings (record_offset start s k) (slice_index_or s.frames k [])
 
 -- the rules on a .BTF without faults of its own, in the order in which they are checked
 abbrev pub types_rules : TypesSection → SectionWords → List ObjectRule

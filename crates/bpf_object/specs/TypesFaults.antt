@@ -15,7 +15,7 @@ pub record KeepsTypes (x : TypesSection) (s : SectionWords) : Type 0 where
   pub sections : HoldsSections x.bytes s
   pub rules : AllHold (types_rules x s)
 
--- the fault is the first one of BTF, with the place of the section added to its offset
+-- the fault is the first one of BTF, with the offset of the section added to its offset
 pub record IsBtfFault (x : TypesSection) (fault : ObjectFault) : Type 0 where
   pub own : BtfFault
   pub first : IsFirst x.bytes own

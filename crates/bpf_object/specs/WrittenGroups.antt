@@ -17,36 +17,36 @@ source_part Relocations = Relocations
 
 -- a record
 abbrev pub record_bytes : Section → (List ℕ → ℕ) → Part → ℕ → ℕ → List ℕ
-record_bytes x place Functions g k = function_bytes x.order (function_at x g k)
-record_bytes x place Lines g k = line_bytes x.order (function_at x g k)
-record_bytes x place Relocations g k = relocation_bytes x.order place (relocation_at x g k)
+record_bytes x new_offset Functions g k = function_bytes x.order (function_at x g k)
+record_bytes x new_offset Lines g k = line_bytes x.order (function_at x g k)
+record_bytes x new_offset Relocations g k = relocation_bytes x.order new_offset (relocation_at x g k)
 
 -- the first n records of a group
 abbrev pub records_bytes : Section → (List ℕ → ℕ) → Part → ℕ → ℕ → List ℕ
-records_bytes x place p g zero = []
-records_bytes x place p g (suc n) = records_bytes x place p g n ++ record_bytes x place p g n
+records_bytes x new_offset p g zero = []
+records_bytes x new_offset p g (suc n) = records_bytes x new_offset p g n ++ record_bytes x new_offset p g n
 
 -- a group
 abbrev pub group_head : Section → (List ℕ → ℕ) → ℕ → List ℕ
-group_head x place g = word32 x.order (place (name_of x g)) ++ word32 x.order (group_count x g)
+group_head x new_offset g = word32 x.order (new_offset (name_of x g)) ++ word32 x.order (group_count x g)
 
 abbrev pub group_bytes_at : Section → (List ℕ → ℕ) → Part → ℕ → List ℕ
-group_bytes_at x place p g = group_head x place g ++ records_bytes x place p g (group_count x g)
+group_bytes_at x new_offset p g = group_head x new_offset g ++ records_bytes x new_offset p g (group_count x g)
 
 -- these groups
 abbrev pub groups_bytes : Section → (List ℕ → ℕ) → Part → List ℕ → List ℕ
-groups_bytes x place p gs = flat_map (group_bytes_at x place p) gs
+groups_bytes x new_offset p gs = flat_map (group_bytes_at x new_offset p) gs
 
 -- a part of these groups
 abbrev pub written_part : Section → (List ℕ → ℕ) → Part → List ℕ → List ℕ
-written_part x place p [] = []
-written_part x place p (g ∷ gs) = word32 x.order (record_size p) ++ groups_bytes x place p (g ∷ gs)
+written_part x new_offset p [] = []
+written_part x new_offset p (g ∷ gs) = word32 x.order (record_size p) ++ groups_bytes x new_offset p (g ∷ gs)
 
 -- the section of these groups
 abbrev pub written_extension : Section → (List ℕ → ℕ) → List ℕ → List ℕ → List ℕ
-written_extension x place functions relocations =
-    extension_of x.order (written_part x place Functions functions) (written_part x place Lines functions)
-    (written_part x place Relocations relocations)
+written_extension x new_offset functions relocations =
+    extension_of x.order (written_part x new_offset Functions functions) (written_part x new_offset Lines functions)
+    (written_part x new_offset Relocations relocations)
 
 -- ---- the strings of a group, by their offsets
 

@@ -3,7 +3,7 @@ use Rattle.std.specs.Prelude.{◌≡◌, ◌⊎◌, ℕ, true, List, [], ◌++�
 use Rattle.std.specs.List.{All}
 use Rattle.bpf_words.specs.declared.Order.{Order}
 use Rattle.btf_types.specs.Sections.{SectionWords, records_in}
-use Rattle.bpf_canon.specs.btf.strings.{FirstUses.noted_all, NamesByPlace.NamesByPlace, NamesByPlace.placed_texts, DistinctNames.distinct_table}
+use Rattle.bpf_canon.specs.btf.strings.{FirstUses.noted_all, NamesByOffset.NamesByOffset, NamesByOffset.placed_texts, DistinctNames.distinct_table}
 use Rattle.bpf_canon.specs.btf.write.NameOffsets.{all_offsets}
 use Rattle.bpf_object.specs.declared.{extension.Part.Part, source.Source.Source, types_writer.WrittenTypes.WrittenTypes}
 use Rattle.bpf_object.specs.declared.extension.Part.TheVariants.{Functions, Relocations}
@@ -32,11 +32,11 @@ abbrev pub both_offsets : SectionWords → Section → List ℕ
 both_offsets s x = all_offsets s.frames ++ (groups_offsets x Functions (groups x Functions) ++ groups_offsets x Relocations (groups x Relocations))
 
 -- these strings
-abbrev pub both_names : SectionWords → Section → NamesByPlace
+abbrev pub both_names : SectionWords → Section → NamesByOffset
 both_names s x = record { strings = s.strings; offsets = noted_all [] (both_offsets s x) }
 
 -- .BTF with these strings
-abbrev pub written_btf : Order → SectionWords → NamesByPlace → List ℕ
+abbrev pub written_btf : Order → SectionWords → NamesByOffset → List ℕ
 written_btf o s names = btf_of o (types_bytes o (placed names) (records_in s)) (distinct_table (placed_texts names))
 
 -- both sections of these types, which aren't larger than those of a file may be

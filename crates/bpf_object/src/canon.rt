@@ -45,7 +45,7 @@ fn check_no_extension(elf: &Elf<'_>) -> Result<(), ObjectFault>
     ensures { Checks (spec.without_types_rules elf.now) result }
 {
     let at = elf.section_of(Kind::Extension);
-    let place = u64::from(elf.section_place(at));
+    let place = u64::from(elf.header_offset(at));
     require(at == 0, place, ObjectCause::ExtensionWithoutTypes)
 }
 
@@ -91,7 +91,7 @@ fn check_own_types<'a, A: Allocator>(
     check_types(
         alloc,
         elf.order(),
-        elf.section_place(at),
+        elf.header_offset(at),
         start,
         elf.content(at),
     )

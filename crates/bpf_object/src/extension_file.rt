@@ -12,7 +12,7 @@ ghost use Rattle.bpf_object.specs.WrittenGroups as spec;
 use crate::extension::Part;
 use crate::extension_writer::push_part;
 use crate::source::Source;
-use bpf_canon::DistinctPlaces;
+use bpf_canon::DistinctOffsets;
 use bpf_elf::FILE_LIMIT;
 use bpf_words::{Order, push_words, push16};
 use std::alloc::{AllocError, Allocator};
@@ -76,7 +76,7 @@ fn extension_of<A: Allocator>(
 /// A part of these groups.
 fn part_of<A: Allocator, B: Allocator>(
     alloc: A,
-    names: &DistinctPlaces<'_, B>,
+    names: &DistinctOffsets<'_, B>,
     x: Source<'_>,
     part: Part,
     groups: &[usize],
@@ -94,7 +94,7 @@ fn part_of<A: Allocator, B: Allocator>(
 /// The section with these groups, or `None` if it has more than 64 MiB.
 pub(crate) fn write_extension<A: Allocator + Copy>(
     alloc: A,
-    names: &DistinctPlaces<'_, A>,
+    names: &DistinctOffsets<'_, A>,
     x: Source<'_>,
     functions: &[usize],
     relocations: &[usize],

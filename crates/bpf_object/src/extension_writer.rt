@@ -13,7 +13,7 @@ ghost use Rattle.bpf_object.specs.WrittenGroups as spec;
 
 use crate::extension::Part;
 use crate::source::{Source, access_off, group_count, record_size, records_len, word};
-use bpf_canon::DistinctPlaces;
+use bpf_canon::DistinctOffsets;
 use bpf_words::{push_words, push32};
 use std::alloc::{AllocError, Allocator};
 
@@ -27,9 +27,9 @@ pub(crate) fn source_part(part: Part) -> Part
     }
 }
 
-/// The new place of the name of a group.
-fn name_place<B: Allocator>(
-    names: &DistinctPlaces<'_, B>,
+/// The new offset of the name of a group.
+fn new_name_offset<B: Allocator>(
+    names: &DistinctOffsets<'_, B>,
     x: Source<'_>,
     part: Part,
     group: usize,
@@ -38,12 +38,12 @@ fn name_place<B: Allocator>(
     requires names { HasStrings names.now x part group }
     ensures { result ≡ placed names.now (name_of (section x.entry) group) }
 {
-    names.place(word(x, group) as u32)
+    names.new_offset(word(x, group) as u32)
 }
 
-/// The new place of the access string of a CO-RE relocation.
-fn access_place<B: Allocator>(
-    names: &DistinctPlaces<'_, B>,
+/// The new offset of the access string of a CO-RE relocation.
+fn access_offset<B: Allocator>(
+    names: &DistinctOffsets<'_, B>,
     x: Source<'_>,
     group: usize,
     k: usize,
@@ -53,13 +53,13 @@ fn access_place<B: Allocator>(
     requires names { HasStrings names.now x Relocations group }
     ensures { result ≡ placed names.now (relocation_at (section x.entry) group k).access }
 {
-    names.place(access_off(x, group, k) as u32)
+    names.new_offset(access_off(x, group, k) as u32)
 }
 
 /// Appends a record.
 fn push_record<A: Allocator, B: Allocator>(
     out: &mut Vec<u8, A>,
-    names: &DistinctPlaces<'_, B>,
+    names: &DistinctOffsets<'_, B>,
     x: Source<'_>,
     part: Part,
     group: usize,
@@ -77,7 +77,7 @@ fn push_record<A: Allocator, B: Allocator>(
         Part::Functions => push32(out, x.order, word(x, at + 4) as u32),
         Part::Lines => push_words(out, x.order, &[0, 0, 0]),
         Part::Relocations => {
-            let access = access_place(names, x, group, k);
+            let access = access_offset(names, x, group, k);
             let words = [word(x, at + 4) as u32, access, word(x, at + 12) as u32];
             push_words(out, x.order, &words)
         }
@@ -87,7 +87,7 @@ fn push_record<A: Allocator, B: Allocator>(
 /// Appends the records of a group.
 fn push_records<A: Allocator, B: Allocator>(
     out: &mut Vec<u8, A>,
-    names: &DistinctPlaces<'_, B>,
+    names: &DistinctOffsets<'_, B>,
     x: Source<'_>,
     part: Part,
     group: usize,
@@ -107,7 +107,7 @@ fn push_records<A: Allocator, B: Allocator>(
 /// Appends a group.
 fn push_group<A: Allocator, B: Allocator>(
     out: &mut Vec<u8, A>,
-    names: &DistinctPlaces<'_, B>,
+    names: &DistinctOffsets<'_, B>,
     x: Source<'_>,
     part: Part,
     group: usize,
@@ -117,7 +117,7 @@ fn push_group<A: Allocator, B: Allocator>(
     ensures { OnOk result (out.new.items ≡ out.old.items
         ++ spec.group_bytes_at (section x.entry) (placed names.now) part group) }
 {
-    push32(out, x.order, name_place(names, x, part, group))?;
+    push32(out, x.order, new_name_offset(names, x, part, group))?;
     push32(out, x.order, group_count(x, group) as u32)?;
     push_records(out, names, x, part, group)
 }
@@ -125,7 +125,7 @@ fn push_group<A: Allocator, B: Allocator>(
 /// Appends groups.
 fn push_groups<A: Allocator, B: Allocator>(
     out: &mut Vec<u8, A>,
-    names: &DistinctPlaces<'_, B>,
+    names: &DistinctOffsets<'_, B>,
     x: Source<'_>,
     part: Part,
     groups: &[usize],
@@ -144,7 +144,7 @@ fn push_groups<A: Allocator, B: Allocator>(
 /// Appends a part. It is empty if it has no group.
 pub(crate) fn push_part<A: Allocator, B: Allocator>(
     out: &mut Vec<u8, A>,
-    names: &DistinctPlaces<'_, B>,
+    names: &DistinctOffsets<'_, B>,
     x: Source<'_>,
     part: Part,
     groups: &[usize],

@@ -72,7 +72,7 @@ fn push_type<A: Allocator>(out: &mut Vec<u8, A>, order: Order) -> Result<(), All
     push64(out, order, 0)
 }
 
-/// Appends the place of the section header table, and how many headers there are.
+/// Appends the offset of the section header table, and how many headers there are.
 fn push_table<A: Allocator>(
     out: &mut Vec<u8, A>,
     order: Order,
@@ -160,9 +160,9 @@ pub(crate) fn padded_len(n: usize) -> u64
 }
 
 /// Where the section header table begins.
-fn table_place(sections: &[WrittenSection<'_>]) -> u64
-    requires { spec.content_place (section_at sections.now) (length sections.now) < 2 ^ 63 }
-    ensures { result ≡ spec.content_place (section_at sections.now) (length sections.now) }
+fn table_offset(sections: &[WrittenSection<'_>]) -> u64
+    requires { spec.content_offset (section_at sections.now) (length sections.now) < 2 ^ 63 }
+    ensures { result ≡ spec.content_offset (section_at sections.now) (length sections.now) }
 {
     let mut place = 64;
     for k in 0..sections.len() {
@@ -177,7 +177,7 @@ fn push_section_headers<A: Allocator>(
     order: Order,
     sections: &[WrittenSection<'_>],
 ) -> Result<(), AllocError>
-    requires { spec.content_place (section_at sections.now) (length sections.now) < 2 ^ 63 }
+    requires { spec.content_offset (section_at sections.now) (length sections.now) < 2 ^ 63 }
     ensures { OnOk result (out.new.items ≡ out.old.items
         ++ spec.section_headers order (section_at sections.now) (length sections.now)) }
 {
@@ -203,12 +203,12 @@ pub fn write_file<A: Allocator>(
     sections: &[WrittenSection<'_>],
 ) -> Result<Vec<u8, A>, AllocError>
     requires few { length sections.now + 1 < 2 ^ 16 }
-    requires short { spec.content_place (section_at sections.now) (length sections.now) < 2 ^ 63 }
+    requires short { spec.content_offset (section_at sections.now) (length sections.now) < 2 ^ 63 }
     ensures { IfOk result (λ out. out.items
         ≡ spec.file_of order flags (section_at sections.now) (length sections.now)) }
 {
     let count = sections.len() as u16 + 1;
-    let table = table_place(sections);
+    let table = table_offset(sections);
     let mut out = Vec::with_capacity(alloc, table as usize + 64 * usize::from(count))?;
     push_ident(&mut out, order)?;
     push_type(&mut out, order)?;

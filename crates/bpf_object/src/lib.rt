@@ -17,7 +17,7 @@
 //! - `section_groups` finds the group of records of a section, `source_lines` in it the line of an
 //!   instruction, and `section_records` iterates over its records.
 //! - `extension_file` writes .BTF.ext anew, by `groups` and `extension_writer`.
-//! - `object_writer` writes the file: its strings are in `file_strings` and `file_places`, its symbols
+//! - `object_writer` writes the file: its strings are in `file_strings` and `new_offsets`, its symbols
 //!   and tables of relocations in `symbol_rows` and `relocation_rows`, with the numbers of
 //!   `numbering`. `file` puts the sections together.
 
@@ -33,7 +33,7 @@ mod extension_strings;
 mod extension_writer;
 mod fault;
 mod file;
-mod file_places;
+mod new_offsets;
 mod file_strings;
 mod group_checks;
 mod groups;

@@ -6,10 +6,10 @@ ghost use Rattle.bpf_elf.specs.ElfRules.{IsElf};
 ghost use Rattle.bpf_elf.specs.Header.{FILE_LIMIT as spec_limit, SHN_LORESERVE as spec_reserved};
 ghost use Rattle.bpf_elf.specs.Numbers.{count, order_of, flags_of};
 ghost use Rattle.bpf_elf.specs.Symbols.{symbol_count};
-ghost use Rattle.bpf_canon.specs.btf.strings.{FirstUses.noted_all, NamesByPlace.placed_texts};
+ghost use Rattle.bpf_canon.specs.btf.strings.{FirstUses.noted_all, NamesByOffset.placed_texts};
 ghost use Rattle.bpf_canon.specs.btf.strings.DistinctNames.{distinct_table};
 ghost use Rattle.bpf_object.specs.Canonical.{own_section as spec_own};
-ghost use Rattle.bpf_object.specs.File.{content_place};
+ghost use Rattle.bpf_object.specs.File.{content_offset};
 ghost use Rattle.bpf_object.specs.FileStrings as strings;
 ghost use Rattle.bpf_object.specs.FileWith as spec;
 ghost use Rattle.bpf_object.specs.FileWith.{IsFileWith};
@@ -21,13 +21,13 @@ ghost use Rattle.bpf_object.specs.Written.{content_of};
 ghost use Rattle.bpf_object.specs.WrittenSections.{section_at, section_value};
 
 use crate::file::{WrittenSection, padded_len, write_file};
-use crate::file_places::own_place;
+use crate::new_offsets::own_name_offset;
 use crate::file_strings::{OwnSection, all_strings, note_strings};
 use crate::numbering::{section_numbers, symbol_numbers};
 use crate::relocation_rows::push_tables;
 use crate::section_writer::{kept_count, push_kept};
 use crate::symbol_rows::{first_global, push_symbols};
-use bpf_canon::{DistinctPlaces, FirstUses};
+use bpf_canon::{DistinctOffsets, FirstUses};
 use bpf_elf::{Elf, FILE_LIMIT};
 use std::alloc::{AllocError, Allocator};
 
@@ -66,7 +66,7 @@ fn table_rows<A: Allocator + Copy>(alloc: A, elf: &Elf<'_>) -> Result<Vec<u8, A>
 fn parts_of<A: Allocator + Copy>(
     alloc: A,
     elf: &Elf<'_>,
-    names: &DistinctPlaces<'_, A>,
+    names: &DistinctOffsets<'_, A>,
 ) -> Result<Parts<A>, AllocError>
     requires { strings.HasFileStrings elf.now names.now }
     ensures { IfOk result (AreParts elf.now names.now) }
@@ -112,7 +112,7 @@ fn own_section<'a>(
 /// Appends .BTF or .BTF.ext, if there is one.
 fn push_types<'a, A: Allocator, B: Allocator>(
     sections: &mut Vec<WrittenSection<'a>, A>,
-    names: &DistinctPlaces<'_, B>,
+    names: &DistinctOffsets<'_, B>,
     elf: &Elf<'_>,
     own: OwnSection,
     content: Option<&'a [u8]>,
@@ -125,7 +125,7 @@ fn push_types<'a, A: Allocator, B: Allocator>(
         ++ spec.section_with (placed names.now) (strings.own_name own) (content_of content.entry)) }
 {
     if let Some(content) = content {
-        let name = own_place(names, elf, own);
+        let name = own_name_offset(names, elf, own);
         sections.push(own_section(name, SHT_PROGBITS, content, 0, 0, 4, 0))?;
     }
     Ok(())
@@ -149,7 +149,7 @@ fn symtab_number<A: Allocator>(
 /// Appends .symtab and .strtab.
 fn push_last<'a, A: Allocator, B: Allocator, C: Allocator>(
     sections: &mut Vec<WrittenSection<'a>, A>,
-    names: &'a DistinctPlaces<'_, B>,
+    names: &'a DistinctOffsets<'_, B>,
     elf: &Elf<'_>,
     parts: &'a Parts<C>,
     symtab: u32,
@@ -162,11 +162,11 @@ fn push_last<'a, A: Allocator, B: Allocator, C: Allocator>(
         (distinct_table (placed_texts names.now))) }
 {
     let symbols = parts.symbols.as_slice();
-    let name = own_place(names, elf, OwnSection::Symbols);
+    let name = own_name_offset(names, elf, OwnSection::Symbols);
     let first = first_global(elf);
     sections.push(own_section(name, SHT_SYMTAB, symbols, symtab + 1, first, 8, 24))?;
     let strings = names.table();
-    let name = own_place(names, elf, OwnSection::Strings);
+    let name = own_name_offset(names, elf, OwnSection::Strings);
     sections.push(own_section(name, SHT_STRTAB, strings, 0, 0, 1, 0))?;
     Ok(())
 }
@@ -174,7 +174,7 @@ fn push_last<'a, A: Allocator, B: Allocator, C: Allocator>(
 /// Appends all sections.
 fn push_all<'a, A: Allocator, B: Allocator, C: Allocator>(
     sections: &mut Vec<WrittenSection<'a>, A>,
-    names: &'a DistinctPlaces<'_, B>,
+    names: &'a DistinctOffsets<'_, B>,
     elf: &'a Elf<'_>,
     parts: &'a Parts<C>,
     types: Option<&'a [u8]>,
@@ -201,7 +201,7 @@ fn push_all<'a, A: Allocator, B: Allocator, C: Allocator>(
 /// Whether a file of these sections isn't larger than a file may be.
 fn is_small(sections: &[WrittenSection<'_>]) -> bool
     ensures { result ≡ (nat_lt (length sections.now + 1) spec_reserved
-        && nat_le (content_place (section_at sections.now) (length sections.now)
+        && nat_le (content_offset (section_at sections.now) (length sections.now)
         + 64 * (length sections.now + 1)) spec_limit) }
 {
     if sections.len() + 1 >= SHN_LORESERVE {
@@ -214,7 +214,7 @@ fn is_small(sections: &[WrittenSection<'_>]) -> bool
 fn fits(sections: &[WrittenSection<'_>], limit: u64) -> bool
     requires { (64 ≤ limit) × (limit ≤ spec_limit) }
     ensures { result
-        ≡ nat_le (content_place (section_at sections.now) (length sections.now)) limit }
+        ≡ nat_le (content_offset (section_at sections.now) (length sections.now)) limit }
 {
     let mut place = 64;
     for k in 0..sections.len() {
@@ -263,7 +263,7 @@ fn borrowed<'x>(content: &'x Option<&[u8]>) -> Option<&'x [u8]>
 fn write_parts<'a, A: Allocator + Copy>(
     alloc: A,
     elf: &'a Elf<'_>,
-    names: &'a DistinctPlaces<'_, A>,
+    names: &'a DistinctOffsets<'_, A>,
     parts: &'a Parts<A>,
     types: Option<&'a [u8]>,
     extension: Option<&'a [u8]>,
@@ -282,13 +282,13 @@ fn write_parts<'a, A: Allocator + Copy>(
 }
 
 /// The places of the strings in .strtab, or `None` if that is larger than a file may be.
-fn find_places<'s, A: Allocator + Copy>(
+fn find_offsets<'s, A: Allocator + Copy>(
     alloc: A,
     elf: &Elf<'_>,
     all: &'s [u8],
     has_types: bool,
     has_extension: bool,
-) -> Result<Option<DistinctPlaces<'s, A>>, AllocError>
+) -> Result<Option<DistinctOffsets<'s, A>>, AllocError>
     requires rules { IsElf elf.now }
     requires strings { all.now ≡ strings.all_strings elf.now }
     ensures { IfOk result (λ found. MatchOption found
@@ -298,7 +298,7 @@ fn find_places<'s, A: Allocator + Copy>(
 {
     let mut uses = FirstUses::new(alloc, all)?;
     note_strings(&mut uses, elf, has_types, has_extension)?;
-    let found = DistinctPlaces::find(alloc, uses, FILE_LIMIT as u32)?;
+    let found = DistinctOffsets::find(alloc, uses, FILE_LIMIT as u32)?;
     Ok(found)
 }
 
@@ -313,7 +313,7 @@ pub(crate) fn write_object<A: Allocator + Copy>(
         (IsFileWith elf.now (content_of types.entry) (content_of extension.entry)) }
 {
     let strings = all_strings(alloc, elf)?;
-    let found = find_places(alloc, elf, &strings, types.is_some(), extension.is_some())?;
+    let found = find_offsets(alloc, elf, &strings, types.is_some(), extension.is_some())?;
     let Some(names) = found else {
         return Ok(None);
     };

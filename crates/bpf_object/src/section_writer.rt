@@ -12,10 +12,10 @@ ghost use Rattle.bpf_object.specs.Tables as tables;
 ghost use Rattle.bpf_object.specs.WrittenSections.{section_value};
 
 use crate::file::WrittenSection;
-use crate::file_places::section_place;
+use crate::new_offsets::section_offset;
 use crate::numbering::{counted, is_kept_section, is_table};
 use crate::symbol_rows::sections_before;
-use bpf_canon::DistinctPlaces;
+use bpf_canon::DistinctOffsets;
 use bpf_elf::Elf;
 use std::alloc::{AllocError, Allocator};
 
@@ -71,7 +71,7 @@ fn link_of(section_type: u32, symtab: u32) -> u32
 
 /// A section that is kept. `link` is the number of .symtab.
 fn kept_section<'a, B: Allocator>(
-    names: &DistinctPlaces<'_, B>,
+    names: &DistinctOffsets<'_, B>,
     elf: &Elf<'_>,
     numbers: &[u32],
     i: usize,
@@ -88,7 +88,7 @@ fn kept_section<'a, B: Allocator>(
 {
     let section = elf.section(i);
     WrittenSection {
-        name_offset: section_place(names, elf, i),
+        name_offset: section_offset(names, elf, i),
         section_type: section.section_type,
         flags: section.flags,
         address: section.address,
@@ -104,7 +104,7 @@ fn kept_section<'a, B: Allocator>(
 /// Appends a section, if it is kept. If it is a table, its rows are at `at` of all rows.
 fn push_if_kept<'a, A: Allocator, B: Allocator>(
     sections: &mut Vec<WrittenSection<'a>, A>,
-    names: &DistinctPlaces<'_, B>,
+    names: &DistinctOffsets<'_, B>,
     elf: &'a Elf<'_>,
     numbers: &[u32],
     rows: &'a [u8],
@@ -134,7 +134,7 @@ fn push_if_kept<'a, A: Allocator, B: Allocator>(
 /// the rows of all tables, and `link` is the number of .symtab.
 pub(crate) fn push_kept<'a, A: Allocator, B: Allocator>(
     sections: &mut Vec<WrittenSection<'a>, A>,
-    names: &DistinctPlaces<'_, B>,
+    names: &DistinctOffsets<'_, B>,
     elf: &'a Elf<'_>,
     numbers: &[u32],
     rows: &'a [u8],

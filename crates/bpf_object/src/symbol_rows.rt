@@ -12,9 +12,9 @@ ghost use Rattle.bpf_object.specs.NotedStrings.{placed};
 ghost use Rattle.bpf_object.specs.SymbolRows as rows;
 
 use crate::file::push64;
-use crate::file_places::symbol_place;
+use crate::new_offsets::symbol_offset;
 use crate::numbering::counted;
-use bpf_canon::DistinctPlaces;
+use bpf_canon::DistinctOffsets;
 use bpf_elf::{Elf, Symbol, is_special};
 use bpf_words::{Order, push16, push32};
 use std::alloc::{AllocError, Allocator};
@@ -45,7 +45,7 @@ fn symbol_section(elf: &Elf<'_>, numbers: &[u32], section: u16) -> u16
     }
 }
 
-/// Appends a symbol with a new place of its name and a new section index.
+/// Appends a symbol with a new offset of its name and a new section index.
 fn push_row<A: Allocator>(
     out: &mut Vec<u8, A>,
     order: Order,
@@ -66,7 +66,7 @@ fn push_row<A: Allocator>(
 /// Appends a symbol.
 fn push_symbol<A: Allocator, B: Allocator>(
     out: &mut Vec<u8, A>,
-    names: &DistinctPlaces<'_, B>,
+    names: &DistinctOffsets<'_, B>,
     elf: &Elf<'_>,
     numbers: &[u32],
     j: usize,
@@ -79,7 +79,7 @@ fn push_symbol<A: Allocator, B: Allocator>(
         ++ symbol_bytes (order_of elf.now) (placed names.now) (spec.kept_symbol elf.now j)) }
 {
     let symbol = elf.symbol(j);
-    let name = symbol_place(names, elf, j);
+    let name = symbol_offset(names, elf, j);
     let section = symbol_section(elf, numbers, symbol.section);
     push_row(out, elf.order(), symbol, name, section)
 }
@@ -87,7 +87,7 @@ fn push_symbol<A: Allocator, B: Allocator>(
 /// Appends a symbol, if it is kept.
 fn push_if_kept<A: Allocator, B: Allocator>(
     out: &mut Vec<u8, A>,
-    names: &DistinctPlaces<'_, B>,
+    names: &DistinctOffsets<'_, B>,
     elf: &Elf<'_>,
     numbers: &[u32],
     j: usize,
@@ -108,7 +108,7 @@ fn push_if_kept<A: Allocator, B: Allocator>(
 /// Appends the kept symbols. `numbers` say how many kept sections precede each.
 pub(crate) fn push_symbols<A: Allocator, B: Allocator>(
     out: &mut Vec<u8, A>,
-    names: &DistinctPlaces<'_, B>,
+    names: &DistinctOffsets<'_, B>,
     elf: &Elf<'_>,
     numbers: &[u32],
 ) -> Result<(), AllocError>

@@ -4,7 +4,7 @@ ghost use Rattle.std.specs.Prelude.{◌≡◌, ◌+◌, ◌*◌, ◌^◌, ◌<�
 ghost use Rattle.bpf_elf.specs.Rules.{each};
 ghost use Rattle.bpf_elf.specs.{Kinds.is_reserved as spec_reserved, Names.string_at};
 ghost use Rattle.btf_raw.specs.Frames.{IsFrame};
-ghost use Rattle.btf_types.specs.tables.PlaceWords.{ReadsRecord};
+ghost use Rattle.btf_types.specs.tables.OffsetWords.{ReadsRecord};
 ghost use Rattle.bpf_object.specs.Faults.{Checks};
 ghost use Rattle.bpf_object.specs.Types as spec;
 
@@ -114,7 +114,7 @@ fn check_items(strings: &[u8], this: &Record<'_>, pos: u64) -> Result<(), Object
     Ok(())
 }
 
-/// Checks a record at a place of the file, and then its items.
+/// Checks a record at an offset of the file, and then its items.
 pub(crate) fn check_record(strings: &[u8], this: &Record<'_>, pos: u64) -> Result<(), ObjectFault>
     requires reads { ReadsRecord strings.now this.now }
     requires near { pos + 4 * length this.now < 2 ^ 64 }

@@ -26,7 +26,7 @@ pub(crate) struct TypesSource<'a> {
     /// The byte order of the file.
     pub(crate) order: Order,
     /// Where the header of the section is in the file.
-    pub(crate) place: u32,
+    pub(crate) header_offset: u32,
     /// Where the section is in the file.
     pub(crate) start: u32,
     /// Its bytes.
@@ -40,7 +40,7 @@ fn check_size(x: TypesSource<'_>) -> Result<(), ObjectFault>
     let is_short = x.bytes.len() <= TYPES_LIMIT;
     require(
         is_short,
-        u64::from(x.place) + 32,
+        u64::from(x.header_offset) + 32,
         ObjectCause::TypesTooLarge,
     )
 }
@@ -115,7 +115,7 @@ fn check_sections(x: TypesSource<'_>, sections: &FileSections<'_>) -> Result<(),
 
 /// Checks the section .BTF of an object file, and gives its types.
 ///
-/// `order` is the byte order of the file, `place` the offset in bytes of the section's header in
+/// `order` is the byte order of the file, `header_offset` the offset in bytes of the section's header in
 /// it, and `start` that of the section. `bytes` are the section.
 ///
 /// # Errors
@@ -127,17 +127,17 @@ fn check_sections(x: TypesSource<'_>, sections: &FileSections<'_>) -> Result<(),
 pub(crate) fn check_types<'a, A: Allocator>(
     alloc: A,
     order: Order,
-    place: u32,
+    header_offset: u32,
     start: u32,
     bytes: &'a [u8],
 ) -> Result<CheckedFile<'a, A>, ObjectError>
     ensures { let x : TypesSection =
-        record { order = order; place = place; start = start; bytes = bytes.now } in
+        record { order = order; header_offset = header_offset; start = start; bytes = bytes.now } in
         MatchResult result (KeepsTypes x) (FailsTypes x) }
 {
     let x = TypesSource {
         order,
-        place,
+        header_offset,
         start,
         bytes,
     };

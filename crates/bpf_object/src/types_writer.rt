@@ -7,7 +7,7 @@ ghost use Rattle.std.specs.Prelude.{◌≡◌, ◌+◌, ◌<◌, ◌≤◌, ◌=
 ghost use Rattle.std.specs.Prelude.{IfOk, MatchOption, OnOk};
 ghost use Rattle.std.specs.List.{All, Contains};
 ghost use Rattle.btf_types.specs.tables.TableInvariant.{IsTable};
-ghost use Rattle.bpf_canon.specs.btf.strings.{FirstUses.noted_all, NamesByPlace.placed_texts};
+ghost use Rattle.bpf_canon.specs.btf.strings.{FirstUses.noted_all, NamesByOffset.placed_texts};
 ghost use Rattle.bpf_canon.specs.btf.strings.DistinctNames.{distinct_table};
 ghost use Rattle.bpf_canon.specs.btf.write.NameOffsets.{all_offsets};
 ghost use Rattle.bpf_object.specs.declared.extension.Part.TheVariants.{Functions, Relocations};
@@ -21,7 +21,7 @@ use crate::extension_strings::note_groups;
 use crate::groups::groups_of;
 use crate::source::Source;
 use crate::types::TYPES_LIMIT;
-use bpf_canon::{DistinctPlaces, FirstUses, note_names, push_header, push_types};
+use bpf_canon::{DistinctOffsets, FirstUses, note_names, push_header, push_types};
 use bpf_words::Order;
 use btf_types::FileSections;
 use std::alloc::{AllocError, Allocator};
@@ -74,7 +74,7 @@ fn find_names<'t, A: Allocator + Copy>(
     x: Source<'_>,
     functions: &[usize],
     relocations: &[usize],
-) -> Result<Option<DistinctPlaces<'t, A>>, AllocError>
+) -> Result<Option<DistinctOffsets<'t, A>>, AllocError>
     requires functions { spec.AreGroups x Functions functions.now }
     requires relocations { spec.AreGroups x Relocations relocations.now }
     requires strings { x.strings.now ≡ sections.now.strings }
@@ -85,7 +85,7 @@ fn find_names<'t, A: Allocator + Copy>(
 {
     let mut uses = FirstUses::new(alloc, sections.strings())?;
     note_both(&mut uses, sections, x, functions, relocations)?;
-    DistinctPlaces::find(alloc, uses, TYPES_LIMIT as u32)
+    DistinctOffsets::find(alloc, uses, TYPES_LIMIT as u32)
 }
 
 /// Whether records and a string table of these lengths have at most 15 MiB together with a header.
@@ -101,7 +101,7 @@ fn write_btf<A: Allocator + Copy>(
     alloc: A,
     order: Order,
     sections: &FileSections<'_>,
-    names: &DistinctPlaces<'_, A>,
+    names: &DistinctOffsets<'_, A>,
 ) -> Result<Option<Vec<u8, A>>, AllocError>
     requires strings { names.now.strings ≡ sections.now.strings }
     requires noted { All (Contains names.now.offsets) (all_offsets sections.now.frames) }
@@ -133,7 +133,7 @@ fn write_both<A: Allocator + Copy>(
     alloc: A,
     sections: &FileSections<'_>,
     x: Source<'_>,
-    names: &DistinctPlaces<'_, A>,
+    names: &DistinctOffsets<'_, A>,
     functions: &[usize],
     relocations: &[usize],
 ) -> Result<Option<WrittenTypes<A>>, AllocError>

@@ -242,12 +242,12 @@ pub record NextItem (o : Order) (bytes : List ℕ) (at strings_at kind flag : �
   pub long : length (item_name item) < 2 ^ 32
   pub rest : Rest o bytes (at + item_bytes kind) strings_at flag (drop (k + 1) is) v
 
-name_place : (o : Order) (bytes : List ℕ) (at strings_at : ℕ) (i : TypeItem) → item_name_at (item_parts i).kind strings_at (word32_at o bytes at) ≡ strings_at + item_name_off o bytes (at, i)
-name_place o bytes at strings_at (Member name target bit_offset width) = refl
-name_place o bytes at strings_at (EnumValue name value) = refl
-name_place o bytes at strings_at (Value64 name value) = refl
-name_place o bytes at strings_at (Param name target) = refl
-name_place o bytes at strings_at (Entry target offset size) = sym (add-zero strings_at)
+new_name_offset : (o : Order) (bytes : List ℕ) (at strings_at : ℕ) (i : TypeItem) → item_name_at (item_parts i).kind strings_at (word32_at o bytes at) ≡ strings_at + item_name_off o bytes (at, i)
+new_name_offset o bytes at strings_at (Member name target bit_offset width) = refl
+new_name_offset o bytes at strings_at (EnumValue name value) = refl
+new_name_offset o bytes at strings_at (Value64 name value) = refl
+new_name_offset o bytes at strings_at (Param name target) = refl
+new_name_offset o bytes at strings_at (Entry target offset size) = sym (add-zero strings_at)
 
 of_kind : (o : Order) (bytes : List ℕ) (at strings_at kind flag : ℕ) (is : List TypeItem) (k : ℕ) (v : List TypeRecord) (i : TypeItem) → slice_get is k ≡ Some i → (item_parts i).kind ≡ kind
     → TakesItem o bytes at strings_at flag i (drop (k + 1) is) v → NextItem o bytes at strings_at kind flag is k v
@@ -263,7 +263,7 @@ of_kind o bytes at strings_at kind flag is k v i there same t =
       named = subst (λ (n : ℕ). NameAt bytes (item_name_at n strings_at (word32_at o bytes at)) (item_name i)) same t.named;
       place =
           ap (λ (n : ℕ). item_name_at n strings_at (word32_at o bytes at)) (sym same)
-          ∙ name_place o bytes at strings_at i
+          ∙ new_name_offset o bytes at strings_at i
           ∙ ap (λ (n : ℕ). n + item_name_off o bytes (at, i)) t.rest.strings_are;
       long = t.long;
       rest = subst (λ (n : ℕ). Rest o bytes (at + item_bytes n) strings_at flag (drop (k + 1) is) v) same t.rest;

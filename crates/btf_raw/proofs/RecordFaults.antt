@@ -3,7 +3,7 @@ use Rattle.std.proofs.Common.{◌≡◌, ◌⊎◌, ℕ, ◌+◌, ◌*◌, ◌<�
 use Rattle.std.proofs.lemmas.List.{length-drop}
 use Rattle.bpf_words.specs.{declared.Order.Order, Words.word32_at}
 use Rattle.bpf_words.proofs.WordLemmas.{word32_at-drop}
-use Rattle.btf_raw.specs.{declared.cause.BtfCause.BtfCause, Cause.LeastByPlace}
+use Rattle.btf_raw.specs.{declared.cause.BtfCause.BtfCause, Cause.LeastByOffset}
 use Rattle.btf_raw.specs.declared.cause.BtfCause.TheVariants.{RecordCut, TailCut, InfoBits, KindNumber, FlagSet, Vlen}
 use Rattle.btf_raw.specs.{Kinds.kind_of, Kinds.vlen_of, Kinds.tail_words, Heads.HeadFault, Heads.LeastOfInfo}
 use Rattle.btf_raw.specs.Frames.{InfoFault, RecordFault, HasInfo, IsAllowed}
@@ -53,7 +53,7 @@ allowed_has_none info Vlen allowed fault =
     elim allowed.vlen [ inl none ↦ fault.1 none | inr has ↦ let not = fault.2 in absurd cc ]
 allowed_has_none info cause allowed fault = absurd fault
 
-pub least_of_info : (o : Order) (types : List ℕ) (pos place : ℕ) (cause : BtfCause) → pos + 12 ≤ length types → place ≡ pos + 4 → LeastOfInfo (info_at o types pos) cause → LeastByPlace (HeadFault o types pos) place cause
+pub least_of_info : (o : Order) (types : List ℕ) (pos place : ℕ) (cause : BtfCause) → pos + 12 ≤ length types → place ≡ pos + 4 → LeastOfInfo (info_at o types pos) cause → LeastByOffset (HeadFault o types pos) place cause
 least_of_info o types pos place cause there at least = record {
   holds = (4, of_info o types pos cause there least.holds, at);
   least = λ q d h. elim (says o types pos h.0 q d there h.1 h.2) [
@@ -62,7 +62,7 @@ least_of_info o types pos place cause there at least = record {
   ];
 }
 
-pub tail_cut : (o : Order) (types : List ℕ) (pos place : ℕ) → pos + 12 ≤ length types → place ≡ pos + 12 → IsAllowed (info_at o types pos) → length types < tail_end o types pos → LeastByPlace (HeadFault o types pos) place TailCut
+pub tail_cut : (o : Order) (types : List ℕ) (pos place : ℕ) → pos + 12 ≤ length types → place ≡ pos + 12 → IsAllowed (info_at o types pos) → length types < tail_end o types pos → LeastByOffset (HeadFault o types pos) place TailCut
 tail_cut o types pos place there at allowed cut = record {
   holds = (12, (info_at o types pos, has_info o types pos there, allowed.kind, omega (arith, length-drop pos types), omega (arith, length-drop pos types), refl), at);
   least = λ q d h. elim (says o types pos h.0 q d there h.1 h.2) [

@@ -1,5 +1,5 @@
 -- Lemmas on strings and their suffixes.
-pub mod CommonTails
+pub mod CommonSuffixes
 pub mod Distinct
 pub mod Hosts
 pub mod LongEnds
@@ -8,6 +8,6 @@ pub mod Neighbours
 pub mod Sections
 pub mod Suffixes
 pub mod TableLaws
-pub mod TailOrder
+pub mod SuffixOrder
 pub mod Texts
 pub mod EncodedNames

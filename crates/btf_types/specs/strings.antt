@@ -1,5 +1,5 @@
 -- The string table in which names share suffixes.
-pub mod CommonTails
+pub mod CommonSuffixes
 pub mod LongestTexts
 pub mod SharedNames
 pub mod StringTable

@@ -2,7 +2,7 @@
 pub mod Tables
 pub mod TableWords
 pub mod TableInvariant
-pub mod TablePlaces
-pub mod PlaceWords
+pub mod TableOffsets
+pub mod OffsetWords
 pub mod StringEnds
 pub mod Windows

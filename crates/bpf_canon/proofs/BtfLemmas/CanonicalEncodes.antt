@@ -11,7 +11,7 @@ use Rattle.btf_types.specs.Names.{IsName, head_name, item_name, record_names}
 use Rattle.btf_types.specs.{strings.StringTable.string_table, checks.Numbers.TypeFacts}
 use Rattle.btf_types.specs.Encoding.{kind_number, head_third, FlagEncodes, record_vlen, info, head_tail, ItemEncodes, Encodes, HeadInRange, ItemInRange}
 use Rattle.btf_types.specs.Valid.{ItemOf, has_width, has_bit_fields, MemberIsValid, IsValidRecord, IsValid}
-use Rattle.btf_types.proofs.{Encoded.kind_below, Encoded.vlen_below, Encoded.flag_below, StringLemmas.TableLaws.shared_places}
+use Rattle.btf_types.proofs.{Encoded.kind_below, Encoded.vlen_below, Encoded.flag_below, StringLemmas.TableLaws.shared_offsets}
 use Rattle.bpf_canon.specs.btf.CanonicalBtf.{canonical_flag, words_of_item, record_words, canonical_frames}
 
 -- ---- lists
@@ -142,4 +142,4 @@ all_names types (r ∷ v) valid =
 
 -- likewise a valid list, with names at their offsets in its string table
 pub frames_encode : (v : List TypeRecord) → IsValid v → AllZip (Encodes (string_table v)) v (canonical_frames v)
-frames_encode v valid = search (rules, records_encode, shared_places, all_names)
+frames_encode v valid = search (rules, records_encode, shared_offsets, all_names)

@@ -1,6 +1,6 @@
 -- Lemmas on the string table from the strings of names.
 pub mod KeptSteps
-pub mod PlaceSteps
+pub mod OffsetSteps
 pub mod HostSearch
 pub mod HostSteps
 pub mod HostIndices

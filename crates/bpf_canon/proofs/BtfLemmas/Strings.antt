@@ -12,8 +12,8 @@ pub mod UsedSteps
 pub mod MarkSteps
 pub mod InHostSteps
 pub mod PlacedHosts
-pub mod HostPlaceSteps
-pub mod FoundPlaces
+pub mod HostOffsetSteps
+pub mod FoundOffsets
 pub mod SpanSteps
 pub mod TableSpans
 pub mod DistinctSteps

@@ -9,7 +9,7 @@ use Rattle.bpf_insn.specs.declared.decode.InsnError.TheVariants as error
 use Rattle.bpf_insn.specs.{Encoding.InsnFile, Encoding.file_of, Fronts.StopsAt}
 use Rattle.bpf_insn.specs.Faults.{IsFront, IsInsnFault, IsSlotFault, moved_by}
 use Rattle.bpf_insn.proofs.{FileLaws.fault_within, FrontLemmas.empty_begins_none, FrontLemmas.front_fault}
-use Rattle.bpf_canon.specs.insn.FeedState.{FeedState, IsCut, missing_place}
+use Rattle.bpf_canon.specs.insn.FeedState.{FeedState, IsCut, missing_offset}
 use Rattle.bpf_canon.specs.insn.FrontReads.{Advances, BeginsNone, Leaves, ReadsFront}
 use Rattle.bpf_canon.specs.insn.FeedStream.{AnswersFor, Feeds, Finishes, Gains, HasFault, IsSound, Keeps, Moves, Represents, end_after, end_of_feed}
 use Rattle.bpf_canon.proofs.InsnLemmas.FrontLaws.{cut_length, front-nil, front_counts, front_fits, front_joins, lasting_length, sound_cut, sound_file}
@@ -120,7 +120,7 @@ joined_front s t o to b piece old new e a h =
 cut_sound : (o : Order) (b : List ℕ) (l : List Insn) (left : List ℕ) → IsFront o b l left → IsCut o left → IsSound o b
 cut_sound o b l left f c = elim c [
   | inl e ↦ let P : List ℕ → Type 0 = λ x. IsFront o b l x in sound_file o b l (subst P e f)
-  | inr g ↦ sound_cut o b l left (record { pos = missing_place (length left); cause = Truncated }) f g refl
+  | inr g ↦ sound_cut o b l left (record { pos = missing_offset (length left); cause = Truncated }) f g refl
 ]
 
 keeps_of : (o : Order) (b : List ℕ) (l : List Insn) (left held : List ℕ) (fed : ℕ) (fault : Option SlotFault) → IsFront o b l left → fed ≡ length b
@@ -246,12 +246,12 @@ ends_whole s o to b e none h = grind (arith, append-nil)
 
 -- the fault of what is held is that of the stream
 ends_cut : (s : FeedState) (o to : Order) (b : List ℕ) → s.fault ≡ None → 0 < length s.held → length s.held ≤ s.fed → IsCut s.order s.held → Represents s o to b
-    → IsInsnFault o b (record { pos = s.fed - length s.held + missing_place (length s.held); cause = Truncated })
+    → IsInsnFault o b (record { pos = s.fed - length s.held + missing_offset (length s.held); cause = Truncated })
 ends_cut s o to b e some small cut h =
     let k = keeps_none o b h.rest s.held s.fault e h.keeps in
     let P : Order → Type 0 = λ p. IsCut p s.held in
     let here : IsCut o s.held = subst P h.reads cut in
-    let F : SlotFault = record { pos = missing_place (length s.held); cause = Truncated } in
+    let F : SlotFault = record { pos = missing_offset (length s.held); cause = Truncated } in
     let Q : List ℕ → Type 0 = λ x. IsSlotFault o x F in
     let f : IsSlotFault o s.held F = elim here [ inl none ↦ absurd (omega (arith, some, ap length none)) | inr g ↦ g ] in
     front_fault o b h.insns h.rest F (s.fed - length s.held) h.front (omega (arith, some, ap length k.1)) (subst Q k.1 f) (omega (arith, h.fed, small, ap length k.1))
@@ -263,12 +263,12 @@ ends s o to b small cut h = by_cases s.fault s.held refl refl
     by_cases (Some f) held e same = (keeps_fault s o to b f h e).fault
     by_cases None [] e same = ends_whole s o to b e same h
     by_cases None (x ∷ xs) e same =
-        let P : List ℕ → Type 0 = λ l. IsInsnFault o b (record { pos = s.fed - length l + missing_place (length l); cause = Truncated }) in
+        let P : List ℕ → Type 0 = λ l. IsInsnFault o b (record { pos = s.fed - length l + missing_offset (length l); cause = Truncated }) in
         subst P same (ends_cut s o to b e (omega (arith, ap length same)) small cut h)
 
 abbrev missing : ℕ → Result ℕ SlotFault
 missing n = Err (record { pos = n; cause = Truncated })
 
-pub end-cut : (fed count at : ℕ) (held : List ℕ) (fault : Option SlotFault) → fault ≡ None → 0 < length held → at ≡ fed - length held + missing_place (length held)
+pub end-cut : (fed count at : ℕ) (held : List ℕ) (fault : Option SlotFault) → fault ≡ None → 0 < length held → at ≡ fed - length held + missing_offset (length held)
     → Err (record { pos = at; cause = Truncated }) ≡ end_after fed count held fault
 end-cut fed count at held fault e h p = grind arith

@@ -5,7 +5,7 @@ use Rattle.std.specs.List.{flat_map}
 use Rattle.bpf_words.specs.declared.Order.{Order}
 use Rattle.btf_raw.specs.{Header.header, Heads.bit, Frames.section_of}
 use Rattle.btf_types.specs.Values.{TypeHead, KStruct, KUnion, KEnum, KFwd, KDeclTag, KTypeTag, KEnum64, TypeItem, Member, EnumValue, Value64, Param, Entry, TypeRecord}
-use Rattle.btf_types.specs.{Names.head_name, Valid.has_bit_fields, strings.StringTable.string_table, strings.StringTable.place_of}
+use Rattle.btf_types.specs.{Names.head_name, Valid.has_bit_fields, strings.StringTable.string_table, strings.StringTable.offset_of}
 use Rattle.btf_types.specs.Encoding.{kind_number, head_third, record_vlen, head_tail, info}
 
 -- kind_flag: for a STRUCT or UNION, 0 if and only if all widths are 0; for a kind whose value includes it, that bit; 0 otherwise
@@ -21,21 +21,21 @@ canonical_flag _ bit_fields = 0
 
 -- the 32-bit words of an item, first the offset of its name; a width is in the high 8 bits, and a 64-bit value is split low half first
 abbrev pub words_of_item : (List ℕ → ℕ) → TypeItem → List ℕ
-words_of_item place (Member name target bit_offset width) = place name ∷ target ∷ (bit_offset + 2 ^ 24 * width) ∷ []
-words_of_item place (EnumValue name value) = place name ∷ value ∷ []
-words_of_item place (Value64 name value) = place name ∷ value % 2 ^ 32 ∷ value / 2 ^ 32 ∷ []
-words_of_item place (Param name target) = place name ∷ target ∷ []
-words_of_item place (Entry target offset size) = target ∷ offset ∷ size ∷ []
+words_of_item new_offset (Member name target bit_offset width) = new_offset name ∷ target ∷ (bit_offset + 2 ^ 24 * width) ∷ []
+words_of_item new_offset (EnumValue name value) = new_offset name ∷ value ∷ []
+words_of_item new_offset (Value64 name value) = new_offset name ∷ value % 2 ^ 32 ∷ value / 2 ^ 32 ∷ []
+words_of_item new_offset (Param name target) = new_offset name ∷ target ∷ []
+words_of_item new_offset (Entry target offset size) = target ∷ offset ∷ size ∷ []
 
 -- the 32-bit words of a record: the offset of its name, info, size or type, and the rest
 abbrev pub record_words : (List ℕ → ℕ) → TypeRecord → List ℕ
-record_words place r =
-    place (head_name r.head) ∷ info (kind_number r.head) (record_vlen r) (canonical_flag r.head (has_bit_fields r)) ∷ head_third r.head
-    ∷ (head_tail r.head ++ flat_map (words_of_item place) r.items)
+record_words new_offset r =
+    new_offset (head_name r.head) ∷ info (kind_number r.head) (record_vlen r) (canonical_flag r.head (has_bit_fields r)) ∷ head_third r.head
+    ∷ (head_tail r.head ++ flat_map (words_of_item new_offset) r.items)
 
 -- the 32-bit words of all records, with the offsets of names in the string table
 abbrev pub canonical_frames : List TypeRecord → List (List ℕ)
-canonical_frames v = map (record_words (place_of v)) v
+canonical_frames v = map (record_words (offset_of v)) v
 
 abbrev pub canonical_types : Order → List TypeRecord → List ℕ
 canonical_types o v = section_of o (canonical_frames v)

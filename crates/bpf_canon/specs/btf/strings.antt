@@ -1,6 +1,6 @@
 -- The string table from the offsets of names.
 pub mod FirstUses
-pub mod NamesByPlace
+pub mod NamesByOffset
 pub mod DistinctNames
 pub mod SuffixKeys
 pub mod SectionTexts
@@ -8,5 +8,5 @@ pub mod UsedOffsets
 pub mod Ranks
 pub mod Longest
 pub mod InHost
-pub mod HostPlaces
-pub mod DistinctPlaces
+pub mod HostOffsets
+pub mod DistinctOffsets

@@ -18,12 +18,12 @@ pub record FeedState : Type 0 where
   pub fault : Option SlotFault
 
 -- the offset of the slot whose bytes are missing, from the first held byte
-abbrev pub missing_place : ℕ → ℕ
-missing_place n = if nat_lt n 8 then 0 else 8
+abbrev pub missing_offset : ℕ → ℕ
+missing_offset n = if nat_lt n 8 then 0 else 8
 
 -- nothing, or the beginning of an incomplete instruction
 abbrev pub IsCut : Order → List ℕ → Type 0
-IsCut o s = (s ≡ []) ⊎ IsSlotFault o s (record { pos = missing_place (length s); cause = Truncated })
+IsCut o s = (s ≡ []) ⊎ IsSlotFault o s (record { pos = missing_offset (length s); cause = Truncated })
 
 -- what always holds of a feed between two pieces
 pub record IsBetween (o : Order) (held : List ℕ) (held_len fed count : ℕ) : Type 0 where

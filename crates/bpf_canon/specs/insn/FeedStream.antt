@@ -4,7 +4,7 @@ use Rattle.bpf_words.specs.declared.Order.{Order}
 use Rattle.bpf_insn.specs.declared.{insn.Insn.Insn, decode.InsnError.InsnError, fault.SlotFault.SlotFault, fault.SlotCause.TheVariants.Truncated}
 use Rattle.bpf_insn.specs.declared.decode.InsnError.TheVariants as error
 use Rattle.bpf_insn.specs.{Encoding.file_of, Encoding.InsnFile, Faults.IsFront, Faults.IsInsnFault}
-use Rattle.bpf_canon.specs.insn.FeedState.{FeedState, missing_place}
+use Rattle.bpf_canon.specs.insn.FeedState.{FeedState, missing_offset}
 
 -- the bytes have this fault, and no further bytes can change it
 pub record HasFault (o : Order) (b : List ℕ) (f : SlotFault) : Type 0 where
@@ -72,7 +72,7 @@ abbrev pub end_after : ℕ → ℕ → List ℕ → Option SlotFault → Result 
 end_after fed count held (Some f) = Err f
 end_after fed count [] None = Ok count
 end_after fed count (x ∷ xs) None =
-    Err (record { pos = fed - length (x ∷ xs) + missing_place (length (x ∷ xs)); cause = Truncated })
+    Err (record { pos = fed - length (x ∷ xs) + missing_offset (length (x ∷ xs)); cause = Truncated })
 
 -- how the stream of a feed ends
 abbrev pub end_of_feed : FeedState → Result ℕ SlotFault

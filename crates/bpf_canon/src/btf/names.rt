@@ -177,7 +177,7 @@ impl<'a, A: Allocator + Copy> SharedNames<'a, A> {
     }
 
     /// The offset of a name in the string table, within its host. The empty name has offset 0.
-    pub(crate) fn place(&self, name: &str) -> u32
+    pub(crate) fn new_offset(&self, name: &str) -> u32
         requires { spec.IsPlaced self.now name.now }
         ensures { result ≡ shared_among self.now name.now }
     {

@@ -23,20 +23,20 @@
 //! - `ranked_texts.rt`: of the names that end at the same NUL only the longest can be a host. These
 //!   are sorted by their bytes from the end, which gives each a rank and the length of the suffix
 //!   that it has in common with the one before it.
-//! - `shared_places.rt`: the host of a name is found from the first rank whose string ends with it:
+//! - `shared_offsets.rt`: the host of a name is found from the first rank whose string ends with it:
 //!   it is the next string, from there on, that isn't a suffix of the one after it. Hosts are
 //!   appended to the table in the order of first use, and each name is at the end of its host.
-//! - `distinct_places.rt`: instead, the table of a canonical object file, in which no names share
+//! - `distinct_offsets.rt`: instead, the table of a canonical object file, in which no names share
 //!   bytes.
 //!
 //! A hash could only find equal strings, and a host is a longer one. Sorting puts strings with a
 //! common end next to each other, and nobody can choose names that collide. That the hosts are
 //! those of the definition follows from the laws `longest_names_tell_hosts` and
-//! `common_tails_tell_hosts` of `btf_types`. A table without sections has another algorithm
+//! `common_suffixes_tell_hosts` of `btf_types`. A table without sections has another algorithm
 //! (`names.rt`).
 
-pub(crate) mod distinct_places;
-pub(crate) mod name_places;
+pub(crate) mod distinct_offsets;
+pub(crate) mod new_name_offsets;
 mod ranked_texts;
-pub(crate) mod shared_places;
+pub(crate) mod shared_offsets;
 pub(crate) mod used_offsets;

@@ -7,7 +7,7 @@
 //! with it; if the keys are equal too, the lengths decide.
 
 ghost use Rattle.std.specs.Prelude.{◌≡◌, ◌<◌, ℕ, slice_index_or};
-ghost use Rattle.btf_types.specs.strings.SharedNames.{tail_cmp};
+ghost use Rattle.btf_types.specs.strings.SharedNames.{suffix_cmp};
 ghost use Rattle.bpf_canon.specs.btf.strings.SuffixKeys as spec;
 
 use std::cmp::Ordering;
@@ -28,7 +28,7 @@ pub(crate) fn suffix_key(text: &[u8]) -> u64
 
 /// Compares two strings by their reversed bytes, eight at a time.
 pub(crate) fn compare_from_end(a: &[u8], b: &[u8]) -> Ordering
-    ensures { result ≡ tail_cmp a.now b.now }
+    ensures { result ≡ suffix_cmp a.now b.now }
 {
     let (mut first, mut second) = (a, b);
     'ends: while 8 <= first.len() && 8 <= second.len() {

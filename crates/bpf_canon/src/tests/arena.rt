@@ -85,7 +85,7 @@ pub(crate) struct Tally {
     pub(crate) refused: usize,
     /// The number of points of the call at which growths failed, and the last of them.
     pub(crate) places: usize,
-    pub(crate) last_place: Option<usize>,
+    pub(crate) last_offset: Option<usize>,
     /// How many rooms were enough.
     pub(crate) done: usize,
     /// The first room in which the call returned something else, came less far than in a smaller one, or ran out of memory although a
@@ -99,7 +99,7 @@ impl Tally {
         let mut tally = Tally {
             refused: 0,
             places: 0,
-            last_place: None,
+            last_offset: None,
             done: 0,
             wrong: None,
         };
@@ -117,7 +117,7 @@ impl Tally {
     fn count(&mut self, room: usize, outcome: Outcome) {
         match outcome {
             Outcome::Whole => self.done = self.done.saturating_add(1),
-            Outcome::Refused(place) if self.done == 0 && self.last_place <= Some(place) => {
+            Outcome::Refused(place) if self.done == 0 && self.last_offset <= Some(place) => {
                 self.refuse(place);
             }
             _ => self.wrong = Some(room),
@@ -127,9 +127,9 @@ impl Tally {
     /// Counts a call that ran out of memory at a point.
     fn refuse(&mut self, place: usize) {
         self.refused = self.refused.saturating_add(1);
-        if self.last_place != Some(place) {
+        if self.last_offset != Some(place) {
             self.places = self.places.saturating_add(1);
-            self.last_place = Some(place);
+            self.last_offset = Some(place);
         }
     }
 

@@ -6,7 +6,7 @@ use super::compiled_types::{flow_table_big, flow_table_little};
 use super::expect::{equal, holds, is_bytes};
 use super::own_table::Counting;
 use crate::{
-    DistinctPlaces, FirstUses, MemSink, MemSource, RunCause, SideError, canon_btf, note_names,
+    DistinctOffsets, FirstUses, MemSink, MemSource, RunCause, SideError, canon_btf, note_names,
     push_header, push_types, run_btf, same_btf, write_btf,
 };
 use bpf_words::Order;
@@ -87,7 +87,7 @@ fn distinct_file<A: Allocator + Copy>(
     let types_len = sections.types().len() as u32;
     let mut uses = FirstUses::new(alloc, sections.strings())?;
     note_names(&mut uses, &sections)?;
-    let Some(names) = DistinctPlaces::find(alloc, uses, u32::MAX)? else {
+    let Some(names) = DistinctOffsets::find(alloc, uses, u32::MAX)? else {
         return Ok(None);
     };
     let mut out = Vec::new(alloc);
@@ -163,19 +163,19 @@ struct MemoryRow {
     rooms: Rooms,
     refused: usize,
     places: usize,
-    last_place: usize,
+    last_offset: usize,
 }
 
 #[rattlefmt::skip]
 static ROWS: [MemoryRow; 6] = [
-    MemoryRow { call: Call::Write, rooms: Rooms::Any, refused: CANONICAL_LEN, places: 4, last_place: 0 },
-    MemoryRow { call: Call::Distinct, rooms: Rooms::Any, refused: CANONICAL_LEN, places: 1, last_place: 0 },
-    MemoryRow { call: Call::Parse, rooms: Rooms::Any, refused: 0, places: 0, last_place: 0 },
+    MemoryRow { call: Call::Write, rooms: Rooms::Any, refused: CANONICAL_LEN, places: 4, last_offset: 0 },
+    MemoryRow { call: Call::Distinct, rooms: Rooms::Any, refused: CANONICAL_LEN, places: 1, last_offset: 0 },
+    MemoryRow { call: Call::Parse, rooms: Rooms::Any, refused: 0, places: 0, last_offset: 0 },
     // Some rooms are enough to read the file, but not to write it.
-    MemoryRow { call: Call::Canonicalise, rooms: Rooms::More, refused: CANONICAL_LEN, places: 1, last_place: 0 },
+    MemoryRow { call: Call::Canonicalise, rooms: Rooms::More, refused: CANONICAL_LEN, places: 1, last_offset: 0 },
     // The vector that keeps the input grows at least for the first, the second and the last piece. Some rooms are enough for it alone.
-    MemoryRow { call: Call::Run, rooms: Rooms::Any, refused: 3, places: 3, last_place: 849 },
-    MemoryRow { call: Call::Sink, rooms: Rooms::Any, refused: 45, places: 3, last_place: 0 },
+    MemoryRow { call: Call::Run, rooms: Rooms::Any, refused: 3, places: 3, last_offset: 849 },
+    MemoryRow { call: Call::Sink, rooms: Rooms::Any, refused: 45, places: 3, last_offset: 0 },
 ];
 
 fn check_calls(rt: &impl Abort, alloc: Global, ample: Ample) {
@@ -184,7 +184,7 @@ fn check_calls(rt: &impl Abort, alloc: Global, ample: Ample) {
         let call = row.call;
         let tally = Tally::of(rt, alloc, &AmpleCall { call, ample });
         let is_right = tally.is_right(row.refused, row.places)
-            && tally.last_place.unwrap_or(0) >= row.last_place
+            && tally.last_offset.unwrap_or(0) >= row.last_offset
             && row.rooms.are_right(before, tally.refused);
         holds(rt, is_right, &(row.call, tally, before));
         before = tally.refused;

@@ -31,7 +31,7 @@ impl<'a> PlainTable<'a> {
     }
 
     /// Where a name begins: at the end of the host that comes first by its bytes from the end.
-    pub(crate) fn place(&self, name: &[u8]) -> u32 {
+    pub(crate) fn new_offset(&self, name: &[u8]) -> u32 {
         let mut least: Option<(u32, &[u8])> = None;
         let mut begin: u32 = 1;
         for host in &self.hosts {

@@ -2,7 +2,7 @@
 use Rattle.std.proofs.Common.{◌≡◌, ◌⊎◌, ℕ, zero, suc, ◌+◌, ◌*◌, ◌<◌, ◌≤◌, Option, Some, List, [], ◌∷◌, length, take, map, refl, ap, subst, ◌∙◌, inl, inr, length-append, arith}
 use Rattle.std.specs.{Prelude.slice_get, Prelude.slice_index, List.concat}
 use Rattle.std.proofs.lemmas.{Bool.cases_lt, List.length-map, Option.slice_get_within}
-use Rattle.btf_raw.specs.{declared.cause.BtfCause.BtfCause, Cause.number_of, Cause.HasNone, Cause.LeastByPlace}
+use Rattle.btf_raw.specs.{declared.cause.BtfCause.BtfCause, Cause.number_of, Cause.HasNone, Cause.LeastByOffset}
 use Rattle.btf_types.specs.{declared.checks.section.Section.TheInside.Inside, Reading.frame_at, Sections.facts_in}
 use Rattle.btf_types.specs.checks.FieldFaults.{WordFault, FieldFault, frame_facts}
 use Rattle.btf_types.specs.checks.RecordFaults.{IsFaultless, LeastOfRecord}
@@ -32,7 +32,7 @@ module _ (strings : List ℕ) (fs : List (List ℕ)) where
       → ((k : ℕ) (g : List ℕ) → k < i → slice_get fs k ≡ Some g → (j : ℕ) (d : BtfCause) → j < length g → ¬ WordFault strings (map frame_facts fs) g j d)
       → word < length f → WordFault strings (map frame_facts fs) f word c
       → ((j : ℕ) (d : BtfCause) → j < length f → WordFault strings (map frame_facts fs) f j d → (word < j) ⊎ ((word ≡ j) × (number_of c ≤ number_of d)))
-      → LeastByPlace (FieldFault strings fs) (4 * (start fs i + word)) c
+      → LeastByOffset (FieldFault strings fs) (4 * (start fs i + word)) c
   first_field_fault i f word c is before inside holds least = record {
     holds = record { index = i; frame = f; word = word; frame_is = is; inside = inside; fault = holds; place_is = refl };
     least = λ q d other. elim (cases_lt other.index i) [
@@ -74,7 +74,7 @@ module _ (s : Inside) (valid : IsSection s) where
   pub first_in_section : (i word : ℕ) (c : BtfCause) → i < length s.places.now
       → ((k : ℕ) → k < i → IsFaultless s.strings.now (facts_in (words_in s)) (nth_frame s k))
       → LeastOfRecord s.strings.now (facts_in (words_in s)) (nth_frame s i) word c
-      → LeastByPlace (FieldFault s.strings.now ((words_in s).frames)) (slice_index s.places.now i + 4 * word) c
+      → LeastByOffset (FieldFault s.strings.now ((words_in s).frames)) (slice_index s.places.now i + 4 * word) c
   first_in_section i word c there none least =
       let place : slice_index s.places.now i + 4 * word ≡ 4 * (length (concat (take i ((words_in s).frames))) + word) = omega (arith, starts_in s valid i there) in
       rw place

@@ -7,7 +7,7 @@ use Rattle.std.proofs.Math.{ListN.get_or-append, Seq.take-add, Seq.get_or-append
 use Rattle.bpf_words.specs.{declared.Order.Order, Words.IsBytes, Words.word32, Words.word32_at}
 use Rattle.bpf_words.proofs.WordLemmas.{word32-word32_at, word32_at-below}
 use Rattle.btf_raw.specs.declared.{records.RawHead.RawHead, cause.BtfCause.BtfCause}
-use Rattle.btf_raw.specs.{Kinds.kind_of, Kinds.vlen_of, Kinds.tail_words, Heads.HeadAt, Heads.HeadFault, Cause.LeastByPlace}
+use Rattle.btf_raw.specs.{Kinds.kind_of, Kinds.vlen_of, Kinds.tail_words, Heads.HeadAt, Heads.HeadFault, Cause.LeastByOffset}
 use Rattle.btf_raw.specs.Frames.{IsFrame, IsAllowed, RecordFault, FramingFault, bytes_of, section_of, info_word}
 use Rattle.btf_types.specs.Reading.{tabulate, info_at, frame_at, frames_at}
 use Rattle.btf_raw.proofs.Frames.{IsNoFrame, frame_has_none, frames_cancel}
@@ -83,7 +83,7 @@ framed_more o types places pos head fits so at =
     }
 
 -- the fault of the first record that isn't a frame
-pub first_framing_fault : (o : Order) (types places : List ℕ) (pos place : ℕ) (cause : BtfCause) → IsFramedTo o types places pos → LeastByPlace (HeadFault o types pos) place cause → LeastByPlace (FramingFault o types) place cause
+pub first_framing_fault : (o : Order) (types places : List ℕ) (pos place : ℕ) (cause : BtfCause) → IsFramedTo o types places pos → LeastByOffset (HeadFault o types pos) place cause → LeastByOffset (FramingFault o types) place cause
 first_framing_fault o types places pos place cause so least =
     let frames = frames_at o types places in
     let before : length (section_of o frames) ≡ pos = ap length so.whole ∙ length-take-le pos types so.inside in

@@ -3,7 +3,7 @@ use Rattle.std.proofs.Common.{◌≡◌, ℕ, ◌+◌, ◌-◌, List, [], ◌++�
 use Rattle.bpf_words.specs.declared.Order.{Order}
 use Rattle.btf_raw.specs.declared.{header.Header.Header, cause.BtfCause.BtfCause, cause.BtfFault.BtfFault}
 use Rattle.btf_raw.specs.declared.cause.BtfCause.TheVariants.{FirstString, LastString, RecordCut, TailCut}
-use Rattle.btf_raw.specs.{Cause.HasNone, Cause.LeastByCause, Cause.LeastByPlace, ReadHeader.ReadsHeader}
+use Rattle.btf_raw.specs.{Cause.HasNone, Cause.LeastByCause, Cause.LeastByOffset, ReadHeader.ReadsHeader}
 use Rattle.btf_raw.specs.Header.{Cut, HasNulEnds, HeaderFault, StringFault, part, types_at}
 use Rattle.btf_raw.specs.Frames.{Frames, FramingFault, RecordFault, section_of}
 use Rattle.btf_raw.proofs.{Frames.IsNoFrame, Frames.frame_has_none, Frames.frames_cancel, Cuts.cut_unique, Cuts.SameCut}
@@ -97,7 +97,7 @@ framing_checked b h places has framed = record {
   none = framing_has_none b h.order (types_of b h) (strings_of b h) (frames_at h.order (types_of b h) places) has.header.reads.cut framed.frames;
 }
 
-pub first_frames_fault : (b : List ℕ) (h : Header) (p q : ℕ) (c : BtfCause) → HasStrings b h → LeastByPlace (FramingFault h.order (types_of b h)) q c → p ≡ h.types_pos + q → LeastByPlace (FramesFault b) p c
+pub first_frames_fault : (b : List ℕ) (h : Header) (p q : ℕ) (c : BtfCause) → HasStrings b h → LeastByOffset (FramingFault h.order (types_of b h)) q c → p ≡ h.types_pos + q → LeastByOffset (FramesFault b) p c
 first_frames_fault b h p q c has least is = record {
   holds = record {
     header = has.header.none;
@@ -128,7 +128,7 @@ same_frames o types fs gs one other =
     (frames_cancel o fs gs [] [] one.each other.each (nothing_is_no_frame o) (nothing_is_no_frame o) sections).frames
 
 pub first_fields_fault : (b : List ℕ) (h : Header) (places : List ℕ) (p q : ℕ) (c : BtfCause) → HasFrames b h places
-    → LeastByPlace (FieldFault (strings_of b h) (frames_at h.order (types_of b h) places)) q c → p ≡ h.types_pos + q → LeastByPlace (FieldsFault b) p c
+    → LeastByOffset (FieldFault (strings_of b h) (frames_at h.order (types_of b h) places)) q c → p ≡ h.types_pos + q → LeastByOffset (FieldsFault b) p c
 first_fields_fault b h places p q c has least is =
     let reads = has.has_strings.header.reads in
     let frames = frames_at h.order (types_of b h) places in

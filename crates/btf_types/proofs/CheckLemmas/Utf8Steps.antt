@@ -15,8 +15,8 @@ text_end s at text t =
     omega (arith, t.place, ap length t.is_there, length-append (t.before ++ text) (0 ∷ t.after), length-append t.before text)
 
 -- from an offset inside it on, it is a string too
-pub tail_text : (s : List ℕ) (at o : ℕ) (text : List ℕ) → TextAt s at text → o ≤ length text → TextAt s (at + o) (drop o text)
-tail_text s at o text t low = record {
+pub suffix_text : (s : List ℕ) (at o : ℕ) (text : List ℕ) → TextAt s at text → o ≤ length text → TextAt s (at + o) (drop o text)
+suffix_text s at o text t low = record {
   without_nul = λ i h e. t.without_nul (o + i) (omega (arith, length-drop o text)) (sym (get_or-drop o text i 0) ∙ e);
   before = t.before ++ take o text;
   after = t.after;
@@ -122,7 +122,7 @@ front_and_rest s at next rest text is inside some t =
     let edge = edge_of_text s at next rest text is inside t low in
     let front = front_of_text s at n text t low in
     let sum : at + n ≡ next = omega arith in
-    let rest : TextAt s next (drop n text) = subst (λ (i : ℕ). TextAt s i (drop n text)) sum (tail_text s at n text t low) in
+    let rest : TextAt s next (drop n text) = subst (λ (i : ℕ). TextAt s i (drop n text)) sum (suffix_text s at n text t low) in
     let goes_on = is.rest_is (drop n text) rest in (
       λ both. subst (λ (x : List ℕ). IsUtf8 x) (take-append-drop n text)
           (IsUtf8-append (take n text) (drop n text) (subst (λ (x : List ℕ). IsUtf8 x) front both.0) (goes_on.0 both.1)),

@@ -23,20 +23,20 @@ all_after : (f : List ℕ) (n : ℕ) → length f ≡ 3 + n → drop 3 f ≡ tak
 all_after f n e = sym (take_all n (drop 3 f) (omega (arith, length-drop 3 f)))
 
 -- the fields after the first three: those of the head, then those of the items
-whole_tail : {k : ℕ} → KindIs k → (f : List ℕ) (v : ℕ) → length f ≡ 3 + (fixed_words k + item_words k * v)
+whole_suffix : {k : ℕ} → KindIs k → (f : List ℕ) (v : ℕ) → length f ≡ 3 + (fixed_words k + item_words k * v)
     → drop 3 f ≡ words_after (fixed_words k) (slice_index f 3) (slice_index f 4) (slice_index f 5) ++ take (item_words k * count_of k v) (drop 3 f)
 unfolding fixed_words item_words
-whole_tail IsInt f v e = one_after f (omega arith)
-whole_tail IsArray f v e = three_after f (omega arith)
-whole_tail IsVar f v e = one_after f (omega arith)
-whole_tail IsDeclTag f v e = one_after f (omega arith)
-whole_tail IsStruct f v e = all_after f (3 * v) (omega arith)
-whole_tail IsUnion f v e = all_after f (3 * v) (omega arith)
-whole_tail IsEnum f v e = all_after f (2 * v) (omega arith)
-whole_tail IsFuncProto f v e = all_after f (2 * v) (omega arith)
-whole_tail IsDatasec f v e = all_after f (3 * v) (omega arith)
-whole_tail IsEnum64 f v e = all_after f (3 * v) (omega arith)
-whole_tail known f v e = none_after f (omega arith)
+whole_suffix IsInt f v e = one_after f (omega arith)
+whole_suffix IsArray f v e = three_after f (omega arith)
+whole_suffix IsVar f v e = one_after f (omega arith)
+whole_suffix IsDeclTag f v e = one_after f (omega arith)
+whole_suffix IsStruct f v e = all_after f (3 * v) (omega arith)
+whole_suffix IsUnion f v e = all_after f (3 * v) (omega arith)
+whole_suffix IsEnum f v e = all_after f (2 * v) (omega arith)
+whole_suffix IsFuncProto f v e = all_after f (2 * v) (omega arith)
+whole_suffix IsDatasec f v e = all_after f (3 * v) (omega arith)
+whole_suffix IsEnum64 f v e = all_after f (3 * v) (omega arith)
+whole_suffix known f v e = none_after f (omega arith)
 
 count_low : (k v : ℕ) → count_of k v ≤ v
 count_low k v = split (item_words k == 0)
@@ -106,7 +106,7 @@ module _ (strings : List ℕ) (types : List TypeFacts) (frame : List ℕ) (ends 
 
   after_three : drop 3 frame ≡ head_tail (head_of frame name) ++ concat (tabulate words_at count)
   after_three =
-      whole_tail (known frame is_frame) frame (vlen frame) (room frame is_frame)
+      whole_suffix (known frame is_frame) frame (vlen frame) (room frame is_frame)
       ∙ rw (tail_same, pieces (item_words (kind frame)) count 3 frame) refl
 
   all_words : frame ≡ name_word frame ∷ info (kind_number (head_of frame name)) (record_vlen (record_of strings frame)) (flag frame) ∷ head_third (head_of frame name) ∷ (head_tail (head_of frame name) ++ concat (tabulate words_at count))

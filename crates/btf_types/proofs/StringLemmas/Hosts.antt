@@ -4,19 +4,19 @@ use Rattle.std.specs.{Ordering.is_lt, Str.bytes_eq, Prelude.reverse, Cmp.IsTotal
 use Rattle.std.specs.List.{filter, list_any, best_of, sum_by}
 use Rattle.std.proofs.lemmas.{Bool.both_ways, Bool.not-true, Bool.cases_Bool, Bool.cases_lt, Cmp.nat_list_cmp_total, Cmp.on_total}
 use Rattle.std.proofs.lemmas.List.{get_or_default, MinMax.IsFirstBest-from_best_of, MinMax.ranks_by, Sums.get_or-le-sum_by}
-use Rattle.btf_types.specs.strings.SharedNames.{is_suffix, is_proper_suffix, tail_cmp, hosts_of, least_by_tail, host_in}
+use Rattle.btf_types.specs.strings.SharedNames.{is_suffix, is_proper_suffix, suffix_cmp, hosts_of, least_by_suffix, host_in}
 use Rattle.btf_types.proofs.Members.{Has, Has-filter, Has-from_filter, any_from_Has, Has_from_any, Has-get_or, Contains-from_Has}
 use Rattle.btf_types.proofs.StringLemmas.Texts.{bytes_eq-same, same_text}
 use Rattle.btf_types.proofs.StringLemmas.Suffixes.{Ends, Ends-refl, Ends-trans, Ends-shorter, Ends-same_length, Ends-from_suffix, suffix_from_Ends, Ends-from_proper, proper_from_Ends}
 
-pub tail_total : IsTotalOrder tail_cmp
-tail_total = on_total reverse nat_list_cmp_total
+pub suffix_total : IsTotalOrder suffix_cmp
+suffix_total = on_total reverse nat_list_cmp_total
 
-abbrev pub tail_lt : List ℕ → List ℕ → Bool
-tail_lt x y = is_lt (tail_cmp x y)
+abbrev pub suffix_lt : List ℕ → List ℕ → Bool
+suffix_lt x y = is_lt (suffix_cmp x y)
 
-pub tail_ranks : IsStrictWeakOrder tail_lt
-tail_ranks = ranks_by tail_total (λ x. x)
+pub suffix_ranks : IsStrictWeakOrder suffix_lt
+suffix_ranks = ranks_by suffix_total (λ x. x)
 
 -- a host is a string that no other string ends with
 pub host_ends_none : (ks : List (List ℕ)) (h z : List ℕ) → Has (hosts_of ks) h → Has ks z → is_proper_suffix h z ≡ true → ⊥
@@ -52,30 +52,30 @@ some_host ks (suc n) x i b = elim (cases_Bool (list_any (is_proper_suffix x) ks)
 ]
 
 -- the least of several strings is one of them, and none is less than it
-pub least_is : (hs : List (List ℕ)) (g : List ℕ) → Has hs g → Has hs (least_by_tail hs) × ((z : List ℕ) → Has hs z → tail_lt z (least_by_tail hs) ≡ false)
+pub least_is : (hs : List (List ℕ)) (g : List ℕ) → Has hs g → Has hs (least_by_suffix hs) × ((z : List ℕ) → Has hs z → suffix_lt z (least_by_suffix hs) ≡ false)
 least_is [] g i = absurd i
 least_is (y ∷ ys) g i =
-    let first = IsFirstBest-from_best_of tail_ranks y ys in
+    let first = IsFirstBest-from_best_of suffix_ranks y ys in
     let best = first.1 in (
       subst (λ t. Has (y ∷ ys) t) first.2 (Has-get_or (y ∷ ys) first.0 y best.0),
       λ z j.
           let c = Contains-from_Has (y ∷ ys) z j in
           let at : get_or (y ∷ ys) c.0 y ≡ z = get_or_default (y ∷ ys) c.0 y z c.1 ∙ c.2 in
-          ap (λ (a : List ℕ). tail_lt a (best_of tail_lt y ys)) (sym at) ∙ ap (λ (b : List ℕ). tail_lt (get_or (y ∷ ys) c.0 y) b) (sym first.2) ∙ best.1 c.0 y c.1,
+          ap (λ (a : List ℕ). suffix_lt a (best_of suffix_lt y ys)) (sym at) ∙ ap (λ (b : List ℕ). suffix_lt (get_or (y ∷ ys) c.0 y) b) (sym first.2) ∙ best.1 c.0 y c.1,
     )
 
 -- the host of a string: a host that ends with it, such that no lesser host does
 pub record IsHostOf (ks : List (List ℕ)) (x h : List ℕ) : Type 0 where
   pub host : Has (hosts_of ks) h
   pub ends : Ends x h
-  pub least : (g : List ℕ) → Has (hosts_of ks) g → Ends x g → tail_lt g h ≡ false
+  pub least : (g : List ℕ) → Has (hosts_of ks) g → Ends x g → suffix_lt g h ≡ false
 
 pub host_is : (ks : List (List ℕ)) (x : List ℕ) → Has ks x → IsHostOf ks x (host_in (hosts_of ks) x)
 host_is ks x i =
     let some = some_host ks (sum_by length ks + 1) x i (omega arith) in
     let hs = filter (is_suffix x) (hosts_of ks) in
     let least = least_is hs some.0 (Has-filter (is_suffix x) (hosts_of ks) some.0 some.1 (suffix_from_Ends x some.0 some.2)) in
-    let parts = Has-from_filter (is_suffix x) (hosts_of ks) (least_by_tail hs) least.0 in
+    let parts = Has-from_filter (is_suffix x) (hosts_of ks) (least_by_suffix hs) least.0 in
     record {
       host = parts.0;
       ends = Ends-from_suffix x _ parts.1;

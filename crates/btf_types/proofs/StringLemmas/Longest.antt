@@ -3,12 +3,12 @@ use Rattle.std.proofs.Common.{◌≡◌, ℕ, ◌<◌, Bool, true, not, inl, inr
 use Rattle.std.specs.{List.filter, List.list_any, Str.bytes_eq}
 use Rattle.std.proofs.lemmas.Bool.{both_ways, cases_Bool, false_from_ne_true}
 use Rattle.btf_types.specs.Names.{kept, is_some_text, distinct}
-use Rattle.btf_types.specs.strings.SharedNames.{is_suffix, is_proper_suffix, hosts_of, hosts, host_in, least_by_tail}
+use Rattle.btf_types.specs.strings.SharedNames.{is_suffix, is_proper_suffix, hosts_of, hosts, host_in, least_by_suffix}
 use Rattle.btf_types.specs.strings.LongestTexts.{AreLongest, LongestHaveHosts, HostsByFirstUse, LongestHaveHost}
 use Rattle.btf_types.proofs.Members.{Has, Has-filter, Has-from_filter, any_from_Has, Has_from_any, Has-from_Contains, Contains-from_Has}
 use Rattle.btf_types.proofs.StringLemmas.Texts.{same_tests, same_text, bytes_eq-same, Has-kept, Has-from_kept}
 use Rattle.btf_types.proofs.StringLemmas.Suffixes.{Ends, Ends-length, Ends-from_suffix, Ends-trans, Ends-from_proper, proper_from_Ends}
-use Rattle.btf_types.proofs.StringLemmas.{Hosts.least_is, Hosts.host_ends_none, Hosts.host_member, TailOrder.tail_tie}
+use Rattle.btf_types.proofs.StringLemmas.{Hosts.least_is, Hosts.host_ends_none, Hosts.host_member, SuffixOrder.suffix_tie}
 
 pub Has-kept_some : (xs : List (List ℕ)) (x : List ℕ) → Has xs x → 0 < length x → Has (kept xs) x
 Has-kept_some xs [] h some = absurd (omega (arith, some))
@@ -25,14 +25,14 @@ host_from ks h i none = Has-filter (λ y. not (list_any (is_proper_suffix y) ks)
     none z.0 z.1 z.2)))
 
 -- the least by tails is a matter of the members
-least_same : (hs gs : List (List ℕ)) → ((z : List ℕ) → Has hs z → Has gs z) → ((z : List ℕ) → Has gs z → Has hs z) → least_by_tail hs ≡ least_by_tail gs
+least_same : (hs gs : List (List ℕ)) → ((z : List ℕ) → Has hs z → Has gs z) → ((z : List ℕ) → Has gs z → Has hs z) → least_by_suffix hs ≡ least_by_suffix gs
 least_same [] [] f g = refl
 least_same [] (y ∷ ys) f g = absurd (g y (inl refl))
 least_same (x ∷ xs) [] f g = absurd (f x (inl refl))
 least_same (x ∷ xs) (y ∷ ys) f g =
     let a = least_is (x ∷ xs) x (inl refl) in
     let b = least_is (y ∷ ys) y (inl refl) in
-    tail_tie (least_by_tail (x ∷ xs)) (least_by_tail (y ∷ ys)) (b.1 _ (f _ a.0)) (a.1 _ (g _ b.0))
+    suffix_tie (least_by_suffix (x ∷ xs)) (least_by_suffix (y ∷ ys)) (b.1 _ (f _ a.0)) (a.1 _ (g _ b.0))
 
 pub host_in_same : (hs gs : List (List ℕ)) (x : List ℕ) → ((z : List ℕ) → Has hs z → Has gs z) → ((z : List ℕ) → Has gs z → Has hs z) → host_in hs x ≡ host_in gs x
 host_in_same hs gs x f g = least_same (filter (is_suffix x) hs) (filter (is_suffix x) gs)

@@ -3,13 +3,13 @@ use Rattle.std.proofs.Common.{◌≡◌, ◌≢◌, ℕ, ◌+◌, ◌<◌, true,
 use Rattle.std.specs.List.{list_any, Sorted.IsPermutation, Sorted.IsSorted}
 use Rattle.std.proofs.lemmas.Bool.{both_ways, cases_lt, false_from_ne_true}
 use Rattle.std.proofs.lemmas.List.{get_or_default, Sorted.sorted_far, Sorted.Contains-permutation, Sorted.IsPermutation-sym}
-use Rattle.btf_types.specs.strings.SharedNames.{is_proper_suffix, tail_cmp, hosts_of, host_in}
+use Rattle.btf_types.specs.strings.SharedNames.{is_proper_suffix, suffix_cmp, hosts_of, host_in}
 use Rattle.btf_types.proofs.Members.{Has, Has-get_or, Has-from_Contains, Contains-from_Has, Has_from_any}
 use Rattle.btf_types.proofs.StringLemmas.Suffixes.{Ends, Ends-trans, Ends-from_proper, proper_from_Ends}
-use Rattle.btf_types.proofs.StringLemmas.Hosts.{tail_lt, tail_ranks, host_is, host_ends_none, host_member, own_host_of}
-use Rattle.btf_types.proofs.StringLemmas.{TailOrder.Ends-between, TailOrder.Ends-below, TailOrder.tail_tie, Distinct.NoRepeats, Distinct.apart_after}
+use Rattle.btf_types.proofs.StringLemmas.Hosts.{suffix_lt, suffix_ranks, host_is, host_ends_none, host_member, own_host_of}
+use Rattle.btf_types.proofs.StringLemmas.{SuffixOrder.Ends-between, SuffixOrder.Ends-below, SuffixOrder.suffix_tie, Distinct.NoRepeats, Distinct.apart_after}
 
-module _ (ks sorted : List (List ℕ)) (distinct : NoRepeats ks) (perm : IsPermutation ks sorted) (in_order : IsSorted tail_cmp sorted) where
+module _ (ks sorted : List (List ℕ)) (distinct : NoRepeats ks) (perm : IsPermutation ks sorted) (in_order : IsSorted suffix_cmp sorted) where
   -- the rank of a kept name among the sorted ones
   sorted_rank : (z d : List ℕ) → Has ks z → (j : ℕ) × (j < length sorted) × (get_or sorted j d ≡ z)
   sorted_rank z d h =
@@ -23,7 +23,7 @@ module _ (ks sorted : List (List ℕ)) (distinct : NoRepeats ks) (perm : IsPermu
   later : (k j : ℕ) (d : List ℕ) → k < length sorted → Ends (get_or sorted k d) (get_or sorted j d) → length (get_or sorted k d) < length (get_or sorted j d) → k < j
   later k j d h e l = elim (cases_lt k j) [
     | inl m ↦ m
-    | inr m ↦ absurd (both_ways _ (sorted_far tail_lt tail_ranks sorted in_order j k d m h) (Ends-below _ _ e l))
+    | inr m ↦ absurd (both_ways _ (sorted_far suffix_lt suffix_ranks sorted in_order j k d m h) (Ends-below _ _ e l))
   ]
 
   -- a string that is a proper suffix of any other is a proper suffix of the next one
@@ -35,7 +35,7 @@ module _ (ks sorted : List (List ℕ)) (distinct : NoRepeats ks) (perm : IsPermu
       let at_z : Ends x (get_or sorted at.0 d) = subst (Ends x) (sym at.2) e.0 in
       let l = later k at.0 d inside at_z (omega (arith, e.1, ap length at.2)) in
       let next : k + 1 < length sorted = omega (arith, l, at.1) in
-      let ends = Ends-between x (get_or sorted at.0 d) (get_or sorted (k + 1) d) at_z (in_order k d (omega arith) next) (sorted_far tail_lt tail_ranks sorted in_order (k + 1) at.0 d (omega (arith, l)) at.1) in
+      let ends = Ends-between x (get_or sorted at.0 d) (get_or sorted (k + 1) d) at_z (in_order k d (omega arith) next) (sorted_far suffix_lt suffix_ranks sorted in_order (k + 1) at.0 d (omega (arith, l)) at.1) in
       (next, proper_from_Ends x _ ends (apart_after ks sorted distinct perm k (k + 1) d (omega arith) next))
 
   -- and both have the same host
@@ -54,10 +54,10 @@ module _ (ks sorted : List (List ℕ)) (distinct : NoRepeats ks) (perm : IsPermu
       let at_h : Ends x (get_or sorted at.0 d) = subst (Ends x) (sym at.2) mine.ends in
       let longer : length x < length h = (Ends-from_proper x h (proper_from_Ends x h mine.ends other)).1 in
       let l : k < at.0 = later k at.0 d (omega (arith, next)) at_h (omega (arith, longer, ap length at.2)) in
-      let w_low : tail_lt h w ≡ false = subst (λ (t : List ℕ). tail_lt t w ≡ false) at.2 (sorted_far tail_lt tail_ranks sorted in_order (k + 1) at.0 d (omega (arith, l)) at.1) in
-      let g_high : tail_lt g h ≡ false = mine.least g its.host (Ends-trans x w g xw.0 its.ends) in
+      let w_low : suffix_lt h w ≡ false = subst (λ (t : List ℕ). suffix_lt t w ≡ false) at.2 (sorted_far suffix_lt suffix_ranks sorted in_order (k + 1) at.0 d (omega (arith, l)) at.1) in
+      let g_high : suffix_lt g h ≡ false = mine.least g its.host (Ends-trans x w g xw.0 its.ends) in
       let w_ends : Ends w h = Ends-between w g h its.ends w_low g_high in
-      tail_tie h g (its.least h mine.host w_ends) g_high
+      suffix_tie h g (its.least h mine.host w_ends) g_high
 
   -- a string that isn't a proper suffix of the next one is its own host
   pub own_host : (k : ℕ) (d : List ℕ) → k < length sorted → (k + 1 < length sorted → is_proper_suffix (get_or sorted k d) (get_or sorted (k + 1) d) ≡ false) → host_in (hosts_of ks) (get_or sorted k d) ≡ get_or sorted k d

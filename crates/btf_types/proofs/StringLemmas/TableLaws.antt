@@ -5,33 +5,33 @@ use Rattle.std.specs.{Prelude.Some, Prelude.slice_get, List.All}
 use Rattle.std.proofs.lemmas.List.{length-append, append-nil, drop_all, Sums.sum_by-cons, Concat.flat_map-append}
 use Rattle.std.proofs.lemmas.List.Elements.{All-nil, All-cons, All-head, All-append, All-contains}
 use Rattle.btf_raw.specs.{Names.IsWithoutNul, Names.TextAt, Header.HasNulEnds}
-use Rattle.btf_types.specs.Names.{IsName, with_nul, place_in, kept}
-use Rattle.btf_types.specs.strings.SharedNames.{hosts, host, shared_table, shared_place}
-use Rattle.btf_types.specs.strings.TableLaws.{SharedPlacesHold, IsCutInto, HasName, SectionsAreCut, NamesEndStrings, HostsEndApart, SharedIsShortest, NextHasHost, TableLength, HostIsLeast, HostIsOne}
+use Rattle.btf_types.specs.Names.{IsName, with_nul, offset_within, kept}
+use Rattle.btf_types.specs.strings.SharedNames.{hosts, host, shared_table, shared_offset}
+use Rattle.btf_types.specs.strings.TableLaws.{SharedOffsetsHold, IsCutInto, HasName, SectionsAreCut, NamesEndStrings, HostsEndApart, SharedIsShortest, NextHasHost, TableLength, HostIsLeast, HostIsOne}
 use Rattle.btf_types.proofs.Members.{Has, Has-get_or, Has-from_Contains, Contains-from_Has}
-use Rattle.btf_types.proofs.StringLemmas.Texts.{text_at_place, empty_at_zero, tail_at, Has-kept, Has-from_kept}
+use Rattle.btf_types.proofs.StringLemmas.Texts.{text_at_offset, empty_at_zero, tail_at, Has-kept, Has-from_kept}
 use Rattle.btf_types.proofs.StringLemmas.Suffixes.{Ends, Ends-length, Ends-from_suffix, suffix_from_Ends}
 use Rattle.btf_types.proofs.StringLemmas.{Hosts.host_is, Hosts.host_member, Hosts.hosts_apart, Distinct.NoRepeats-filter, Distinct.NoRepeats-kept}
-use Rattle.btf_types.proofs.StringLemmas.{Longest.kept_some, TailOrder.tail_tie, Neighbours.next_ends, Neighbours.next_host}
+use Rattle.btf_types.proofs.StringLemmas.{Longest.kept_some, SuffixOrder.suffix_tie, Neighbours.next_ends, Neighbours.next_host}
 use Rattle.btf_types.proofs.StringLemmas.Sections.{texts, ends_string, cut, fits}
 
 -- the offset of a string at the end of its host
-shared_place_holds : (xs : List (List ℕ)) (x : List ℕ) → ((z : List ℕ) → Has xs z → IsWithoutNul z) → Has xs x → TextAt (shared_table xs) (shared_place xs x) x
-shared_place_holds xs [] n h = empty_at_zero (hosts xs)
-shared_place_holds xs (b ∷ bytes) n h =
+shared_offset_holds : (xs : List (List ℕ)) (x : List ℕ) → ((z : List ℕ) → Has xs z → IsWithoutNul z) → Has xs x → TextAt (shared_table xs) (shared_offset xs x) x
+shared_offset_holds xs [] n h = empty_at_zero (hosts xs)
+shared_offset_holds xs (b ∷ bytes) n h =
     let x : List ℕ = b ∷ bytes in
     let its = host_is (kept xs) x (Has-kept xs b bytes h) in
     let y = host xs x in
-    let whole = text_at_place (hosts xs) y its.host (n y (Has-from_kept xs y (host_member (kept xs) y its.host))) in
+    let whole = text_at_offset (hosts xs) y its.host (n y (Has-from_kept xs y (host_member (kept xs) y its.host))) in
     let front = its.ends.0 in
-    let at_end : TextAt (shared_table xs) (place_in (hosts xs) y + length front) x =
-    tail_at (shared_table xs) (place_in (hosts xs) y) front x (subst (TextAt (shared_table xs) (place_in (hosts xs) y)) its.ends.1 whole) in
+    let at_end : TextAt (shared_table xs) (offset_within (hosts xs) y + length front) x =
+    tail_at (shared_table xs) (offset_within (hosts xs) y) front x (subst (TextAt (shared_table xs) (offset_within (hosts xs) y)) its.ends.1 whole) in
     let same : length front ≡ length y - length x = omega (arith, length-append front x, ap length its.ends.1) in
-    subst (λ (m : ℕ). TextAt (shared_table xs) (place_in (hosts xs) y + m) x) same at_end
+    subst (λ (m : ℕ). TextAt (shared_table xs) (offset_within (hosts xs) y + m) x) same at_end
 
-pub shared_places : (xs : List (List ℕ)) → SharedPlacesHold xs
-shared_places xs valid = λ k d h. record {
-  text = shared_place_holds xs (get_or xs k d) (λ z i. (All-contains IsName xs z valid (Contains-from_Has xs z i)).without_nul) (Has-get_or xs k d h);
+pub shared_offsets : (xs : List (List ℕ)) → SharedOffsetsHold xs
+shared_offsets xs valid = λ k d h. record {
+  text = shared_offset_holds xs (get_or xs k d) (λ z i. (All-contains IsName xs z valid (Contains-from_Has xs z i)).without_nul) (Has-get_or xs k d h);
   utf8 = (valid k d h).utf8;
 }
 
@@ -115,4 +115,4 @@ host_is_least xs x c =
     }
 
 pub host_is_one : (xs : List (List ℕ)) → HostIsOne xs
-host_is_one xs x g h a b = tail_tie g h (b.least g a.host a.suffix) (a.least h b.host b.suffix)
+host_is_one xs x g h a b = suffix_tie g h (b.least g a.host a.suffix) (a.least h b.host b.suffix)

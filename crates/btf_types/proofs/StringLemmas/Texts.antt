@@ -4,7 +4,7 @@ use Rattle.std.specs.{List.flat_map, List.position_or_len, List.before_first, Li
 use Rattle.std.proofs.lemmas.{Bool.cond_both, Bool.cond-false, Bool.not_from_true, Bool.cases_Bool, Slice.Eq.bytes_eq-Decides}
 use Rattle.std.proofs.lemmas.List.{length-append, Sums.split_at_first, Sums.passes_at_first, Concat.flat_map-append}
 use Rattle.btf_raw.specs.Names.{IsWithoutNul, TextAt}
-use Rattle.btf_types.specs.Names.{with_nul, table_of, place_in, is_other, distinct, is_some_text, kept}
+use Rattle.btf_types.specs.Names.{with_nul, table_of, offset_within, is_other, distinct, is_some_text, kept}
 use Rattle.btf_types.proofs.Members.{Has, Has-filter, Has-from_filter}
 
 pub same_text : (x y : List ℕ) → bytes_eq x y ≡ true → x ≡ y
@@ -44,8 +44,8 @@ table_split ks x h =
     ap table_of (split_at_first p ks x inside) ∙ table_middle (before_first p ks) _ (after_first p ks)
     ∙ ap (λ (y : List ℕ). table_of (before_first p ks) ++ y ++ 0 ∷ rest) (sym same)
 
-pub text_at_place : (ks : List (List ℕ)) (x : List ℕ) → Has ks x → IsWithoutNul x → TextAt (table_of ks) (place_in ks x) x
-text_at_place ks x h n = record {
+pub text_at_offset : (ks : List (List ℕ)) (x : List ℕ) → Has ks x → IsWithoutNul x → TextAt (table_of ks) (offset_within ks x) x
+text_at_offset ks x h n = record {
   without_nul = n;
   before = table_of (before_first (bytes_eq x) ks);
   after = flat_map with_nul (after_first (bytes_eq x) ks);

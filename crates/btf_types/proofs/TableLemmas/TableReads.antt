@@ -8,7 +8,7 @@ use Rattle.btf_raw.specs.Frames.{IsFrame, section_of, kind, name_word}
 use Rattle.btf_raw.proofs.Texts.{TextAt-unique, TextAt-inside}
 use Rattle.btf_types.specs.{Values.TypeRecord, checks.FieldFaults.frame_facts}
 use Rattle.btf_types.specs.{Encoding.Encodes, Encoding.HeadInRange}
-use Rattle.btf_types.specs.tables.{TableInvariant.IsChecked, PlaceWords.HasRecordAt, TableWords.record_at, TableWords.no_record}
+use Rattle.btf_types.specs.tables.{TableInvariant.IsChecked, OffsetWords.HasRecordAt, TableWords.record_at, TableWords.no_record}
 use Rattle.btf_types.proofs.Lists.{length-tabulate, get-map, zip_at}
 use Rattle.btf_types.proofs.{CheckLemmas.SectionSteps.ends_inside, TableLemmas.TextSteps.text_there}
 use Rattle.btf_types.specs.Reading.{text_from, frame_at, frames_at, record_of, records_at, item_of, item_total, head_from, head_of, component_of}

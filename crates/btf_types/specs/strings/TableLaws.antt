@@ -6,11 +6,11 @@ use Rattle.bpf_words.specs.declared.Order.{Order}
 use Rattle.btf_raw.specs.{Header.HasNulEnds, Names.NameAt, Names.IsWithoutNul}
 use Rattle.btf_types.specs.{Values.TypeRecord, Encoding.IsRecord, strings.StringTable.string_table}
 use Rattle.btf_types.specs.Names.{IsName, with_nul, kept, table_of}
-use Rattle.btf_types.specs.strings.SharedNames.{is_suffix, is_proper_suffix, tail_cmp, hosts, host, shared_table, shared_place}
+use Rattle.btf_types.specs.strings.SharedNames.{is_suffix, is_proper_suffix, suffix_cmp, hosts, host, shared_table, shared_offset}
 
 -- each name is at its offset in the string table
-abbrev pub SharedPlacesHold : List (List ℕ) → Type 0
-SharedPlacesHold xs = All IsName xs → All (λ x. NameAt (shared_table xs) (shared_place xs x) x) xs
+abbrev pub SharedOffsetsHold : List (List ℕ) → Type 0
+SharedOffsetsHold xs = All IsName xs → All (λ x. NameAt (shared_table xs) (shared_offset xs x) x) xs
 
 -- the section consists of these strings, each followed by NUL: it is cut after each NUL
 pub record IsCutInto (section : List ℕ) (strings : List (List ℕ)) : Type 0 where
@@ -38,9 +38,9 @@ abbrev pub SharedIsShortest : List (List ℕ) → List ℕ → Type 0
 SharedIsShortest xs section = HasNulEnds section → All (HasName section) xs → length (shared_table xs) ≤ length section
 
 -- the kept names, sorted by reversed bytes
-pub record IsTailSorted (xs sorted : List (List ℕ)) : Type 0 where
+pub record IsSuffixSorted (xs sorted : List (List ℕ)) : Type 0 where
   pub permutation : IsPermutation (kept xs) sorted
-  pub in_order : IsSorted tail_cmp sorted
+  pub in_order : IsSorted suffix_cmp sorted
 
 -- with the kept names so sorted, a name that is a proper suffix of any other is a proper suffix of the next one, and both have the same host
 pub record NextSharesHost (xs sorted : List (List ℕ)) (k : ℕ) (x next : List ℕ) : Type 0 where
@@ -50,7 +50,7 @@ pub record NextSharesHost (xs sorted : List (List ℕ)) (k : ℕ) (x next : List
 
 -- if a sorted name is a suffix of any other, it is a suffix of the next one, and has its host
 abbrev pub NextHasHost : List (List ℕ) → List (List ℕ) → Type 0
-NextHasHost xs sorted = IsTailSorted xs sorted → (k : ℕ) (d z : List ℕ) → k < length sorted → Contains (kept xs) z → is_proper_suffix (slice_index_or sorted k d) z ≡ true → NextSharesHost xs sorted k (slice_index_or sorted k d) (slice_index_or sorted (k + 1) d)
+NextHasHost xs sorted = IsSuffixSorted xs sorted → (k : ℕ) (d z : List ℕ) → k < length sorted → Contains (kept xs) z → is_proper_suffix (slice_index_or sorted k d) z ≡ true → NextSharesHost xs sorted k (slice_index_or sorted k d) (slice_index_or sorted (k + 1) d)
 
 -- a string table has one byte, and for each stored name its bytes and one more
 abbrev pub TableLength : List (List ℕ) → Type 0
@@ -60,7 +60,7 @@ TableLength ks = length (table_of ks) ≡ 1 + sum_by (λ k. length k + 1) ks
 pub record IsLeastHost (xs : List (List ℕ)) (x h : List ℕ) : Type 0 where
   pub host : Contains (hosts xs) h
   pub suffix : is_suffix x h ≡ true
-  pub least : (g : List ℕ) → Contains (hosts xs) g → is_suffix x g ≡ true → is_lt (tail_cmp g h) ≡ false
+  pub least : (g : List ℕ) → Contains (hosts xs) g → is_suffix x g ≡ true → is_lt (suffix_cmp g h) ≡ false
 
 -- the host of a name is the least stored name that ends with it
 abbrev pub HostIsLeast : List (List ℕ) → Type 0

@@ -3,7 +3,7 @@ use Rattle.std.specs.Prelude.{ℕ, ◌+◌, ◌^◌, ◌<◌, ◌≤◌, List, R
 use Rattle.btf_types.specs.declared.error.BtfError.{BtfError}
 use Rattle.btf_types.specs.declared.error.BtfError.TheVariants as errors
 use Rattle.bpf_words.specs.declared.Order.{Order}
-use Rattle.btf_raw.specs.{Cause.LeastByPlace, Cause.moved_by, Frames.FramingFault}
+use Rattle.btf_raw.specs.{Cause.LeastByOffset, Cause.moved_by, Frames.FramingFault}
 use Rattle.btf_types.specs.{Faults.IsFirst, Reading.frames_at, checks.FieldFaults.FieldFault}
 
 -- what an error of a parser says: its fault is the first of the file; nothing if memory ran out
@@ -13,12 +13,12 @@ Fails b errors.Memory = ⊤
 
 -- Likewise for the framing of a section.
 abbrev pub FailsFraming : Order → List ℕ → BtfError → Type 0
-FailsFraming o types (errors.Fault fault) = LeastByPlace (FramingFault o types) fault.pos fault.cause
+FailsFraming o types (errors.Fault fault) = LeastByOffset (FramingFault o types) fault.pos fault.cause
 FailsFraming o types errors.Memory = ⊤
 
 -- Likewise for the fields of its records.
 abbrev pub FailsFields : Order → List ℕ → List ℕ → List ℕ → BtfError → Type 0
-FailsFields o types strings places (errors.Fault fault) = LeastByPlace (FieldFault strings (frames_at o types places)) fault.pos fault.cause
+FailsFields o types strings places (errors.Fault fault) = LeastByOffset (FieldFault strings (frames_at o types places)) fault.pos fault.cause
 FailsFields o types strings places errors.Memory = ⊤
 
 -- the error, with the offset of its fault increased by base

@@ -5,7 +5,7 @@
 
 ghost use Rattle.std.specs.Prelude.{◌≤◌, ◌^◌, length, IfSome, MatchOption, MatchResult};
 ghost use Rattle.btf_raw.specs.{Header.HasNulEnds, Header.STRINGS_LIMIT, Cause.HasNone};
-ghost use Rattle.btf_raw.specs.{Cause.LeastByPlace, Frames.IsFrame};
+ghost use Rattle.btf_raw.specs.{Cause.LeastByOffset, Frames.IsFrame};
 ghost use Rattle.btf_types.specs.checks.{FieldFaults.FieldFault, RecordFaults.FirstWithin};
 ghost use Rattle.btf_types.specs.checks.RecordFaults.{IsFaultlessIn, IsLeastIn};
 ghost use Rattle.btf_types.specs.{Sections.words_at, tables.TableInvariant.IsFramed};
@@ -63,7 +63,7 @@ fn first_field_fault(section: &Section) -> Option<BtfFault>
     ensures inside { IfSome result (λ fault. fault.pos ≤ 2 ^ 25) }
     ensures cases { MatchOption result
         (HasNone (FieldFault section.now.strings section.now.frames))
-        (λ fault. LeastByPlace (FieldFault section.now.strings section.now.frames)
+        (λ fault. LeastByOffset (FieldFault section.now.strings section.now.frames)
         fault.pos fault.cause) }
 {
     for i in 0..section.places.len() {

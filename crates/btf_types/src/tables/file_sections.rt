@@ -8,7 +8,7 @@ ghost use Rattle.std.specs.Prelude.{◌≡◌, ◌-◌, ◌<◌, ◌≤◌, Some
 ghost use Rattle.btf_raw.specs.Frames.{section_of};
 ghost use Rattle.btf_types.specs.{Reading.record_of, Sections.words_at, Sections.records_in};
 ghost use Rattle.btf_types.specs.tables.{TableInvariant.IsTable, TableInvariant.IsChecked};
-ghost use Rattle.btf_types.specs.tables.{TableWords.record_at, PlaceWords.ReadsRecord};
+ghost use Rattle.btf_types.specs.tables.{TableWords.record_at, OffsetWords.ReadsRecord};
 
 use crate::record_words::Record;
 use bpf_words::Order;

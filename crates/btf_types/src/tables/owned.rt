@@ -31,7 +31,7 @@ pub struct Btf<A: Allocator = Global> {
 }
 
 impl<A: Allocator> Model for Btf<A> {
-    ghost use Rattle.btf_types.specs.tables.TablePlaces as placed;
+    ghost use Rattle.btf_types.specs.tables.TableOffsets as placed;
 
     ghost Value = { placed.TypeRecords };
 

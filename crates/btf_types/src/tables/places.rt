@@ -57,9 +57,9 @@ pub struct Places<A: Allocator> {
 
 impl<A: Allocator> Model for Places<A> {
     ghost use Rattle.std.specs.Prelude.{◌≤◌, length, take, drop};
-    ghost use Rattle.btf_types.specs.tables.TablePlaces.{TablePlaces};
+    ghost use Rattle.btf_types.specs.tables.TableOffsets.{TableOffsets};
 
-    ghost Value = { TablePlaces };
+    ghost Value = { TableOffsets };
 
     ghost view = { λ p.
         record { records = take p.count p.index.items; ends = drop p.count p.index.items } };

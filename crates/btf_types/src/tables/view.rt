@@ -52,7 +52,7 @@ pub struct BtfView<'a, A: Allocator = Global> {
 }
 
 impl<'a, A: Allocator> Model for BtfView<'a, A> {
-    ghost use Rattle.btf_types.specs.tables.TablePlaces as placed;
+    ghost use Rattle.btf_types.specs.tables.TableOffsets as placed;
 
     ghost Value = { placed.TypeRecords };
 

@@ -103,7 +103,7 @@ impl Faults {
     }
 }
 
-/// The word at a place.
+/// The word at an offset.
 fn word_at(bytes: &[u8], big: bool, pos: usize) -> Option<u32> {
     let mut word = 0_u32;
     for byte in bytes.get(pos..)?.get(..4)? {
@@ -207,7 +207,7 @@ struct Sections<'a> {
 }
 
 /// The first byte from 24 to the end of the header that isn't 0.
-fn tail_byte(bytes: &[u8], header_len: u64) -> Option<u64> {
+fn suffix_byte(bytes: &[u8], header_len: u64) -> Option<u64> {
     for (pos, byte) in bytes.iter().enumerate() {
         if pos >= 24 && (pos as u64) < header_len && *byte != 0 {
             return Some(pos as u64);
@@ -235,7 +235,7 @@ fn number_faults(faults: &mut Faults, bytes: &[u8], big: bool) {
     let types = (number(bytes, big, 8), number(bytes, big, 12));
     let strings = (number(bytes, big, 16), number(bytes, big, 20));
     let end = header.saturating_add(types.1).saturating_add(strings.1);
-    let tail = tail_byte(bytes, header);
+    let tail = suffix_byte(bytes, header);
     let header_fits = header >= 24 && header <= len.min(4096);
     let strings_fit = strings.1 >= 1 && strings.1 <= 16_777_216;
     faults.note_each(&[

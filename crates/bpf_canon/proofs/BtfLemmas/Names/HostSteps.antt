@@ -13,7 +13,7 @@ use Rattle.btf_types.proofs.Members.{Has, Has-from_filter, Has-from_Contains}
 use Rattle.btf_types.proofs.StringLemmas.{Texts.same_text, Texts.bytes_eq-same, Hosts.own_host_of, Hosts.host_differs}
 use Rattle.btf_types.proofs.StringLemmas.Distinct.{NoRepeats, NoRepeats-kept}
 use Rattle.bpf_canon.proofs.BtfLemmas.Names.KeptSteps.{Has_from_test, test_from_Has, Has_cases, kept_known, kept_new}
-use Rattle.bpf_canon.proofs.BtfLemmas.Names.{PlaceSteps.text_eq, HostSearch.text_at, HostSearch.texts_length}
+use Rattle.bpf_canon.proofs.BtfLemmas.Names.{OffsetSteps.text_eq, HostSearch.text_at, HostSearch.texts_length}
 
 -- whether a set of borrowed strings contains a string
 set_iff_any : (k : Bor (List ℕ)) (ks : List (Bor (List ℕ))) → list_any (text_eq k) ks ≡ list_any (bytes_eq k.now) (borrowed_texts ks)

@@ -5,15 +5,15 @@ use Rattle.std.specs.{List.filter}
 use Rattle.std.proofs.lemmas.List.{Concat.flat_map-append, Elements.filter-append, Sorted.IsPermutation-refl}
 use Rattle.std.proofs.lemmas.Bool.{cases_eq, cases_lt, not-true}
 use Rattle.std.proofs.lemmas.List.{get_or-set_same, get_or-set_other, length-set, take-append-drop, take_all, get_or_read}
-use Rattle.btf_types.specs.Names.{table_of, place_in}
+use Rattle.btf_types.specs.Names.{table_of, offset_within}
 use Rattle.btf_types.specs.strings.SharedNames.{hosts_of, host_in, shared_among}
 use Rattle.btf_types.proofs.Members.{Has, Has-get_or, Has-from_filter}
 use Rattle.btf_types.proofs.StringLemmas.{Texts.same_text, Texts.bytes_eq-same, Distinct.NoRepeats, Distinct.apart_after}
 use Rattle.btf_types.proofs.StringLemmas.{Suffixes.Ends-length, Hosts.host_is, Hosts.own_host_of}
 use Rattle.bpf_canon.specs.btf.names.Interned.{borrowed_texts, HaveHosts, ArePlacedHosts, AreShared, name_at}
-use Rattle.bpf_canon.proofs.BtfLemmas.Names.KeptSteps.{place_stays, place_last, length-table_push}
+use Rattle.bpf_canon.proofs.BtfLemmas.Names.KeptSteps.{offset_stays, offset_last, length-table_push}
 use Rattle.bpf_canon.proofs.BtfLemmas.Names.HostSearch.{text_at, texts_length}
-use Rattle.bpf_canon.proofs.BtfLemmas.Names.{KeptSteps.place_room, Gathering.Has-front, Gathering.Has-back}
+use Rattle.bpf_canon.proofs.BtfLemmas.Names.{KeptSteps.offset_room, Gathering.Has-front, Gathering.Has-back}
 use Rattle.bpf_canon.proofs.BtfLemmas.Names.HostSteps.{keeps, own_host_test, hosts_among, hosts_among_more, hosts_among_same, hosts_among_room}
 
 -- names that are apart have one index each
@@ -31,9 +31,9 @@ not_before [] k n h = absurd (omega (arith, h))
 not_before (x ∷ xs) zero n h = λ i. i
 not_before (x ∷ xs) (suc k) (n, ns) h = grind (arith, Has-get_or, (not_before xs k ns (omega (arith, h))))
 
-pub place_stays_all : (rest ks : List (List ℕ)) (y : List ℕ) → Has ks y → place_in (ks ++ rest) y ≡ place_in ks y
-place_stays_all [] ks y h = ap (λ (l : List (List ℕ)). place_in l y) (append-nil ks)
-place_stays_all (r ∷ rest) ks y h = grind (arith, append_assoc, place_stays, (place_stays_all rest (ks ++ r ∷ []) y (Has-front ks (r ∷ []) y h)))
+pub offset_stays_all : (rest ks : List (List ℕ)) (y : List ℕ) → Has ks y → offset_within (ks ++ rest) y ≡ offset_within ks y
+offset_stays_all [] ks y h = ap (λ (l : List (List ℕ)). offset_within l y) (append-nil ks)
+offset_stays_all (r ∷ rest) ks y h = grind (arith, append_assoc, offset_stays, (offset_stays_all rest (ks ++ r ∷ []) y (Has-front ks (r ∷ []) y h)))
 
 -- the hosts among the first k names have their offsets, and this is the length of their table
 pub record PlacedTo (ks : List (List ℕ)) (host_indices places : List ℕ) (table_len k : ℕ) : Type 0 where
@@ -78,7 +78,7 @@ module _ (ks : List (List ℕ)) (host_indices : List ℕ) (apart : NoRepeats ks)
         let more : hosts_among ks (i + 1) ≡ front ++ x ∷ [] = hosts_among_more ks i [] h (keeps_own i h o) in
         let split : hosts_of ks ≡ (front ++ x ∷ []) ++ rest = ap (filter (keeps ks)) (sym (take-append-drop (i + 1) ks)) ∙ filter-append (keeps ks) (take (i + 1) ks) (drop (i + 1) ks) ∙ ap (λ (l : List (List ℕ)). l ++ rest) more in
         let none : ¬ Has front x = λ y. not_before ks i apart h ((Has-from_filter (keeps ks) (take i ks) x y).0) in
-        to.each i h o ∙ sym (ap (λ (l : List (List ℕ)). place_in l x) split ∙ place_stays_all rest (front ++ x ∷ []) x (Has-back front (x ∷ []) x (inl refl)) ∙ place_last front x none);
+        to.each i h o ∙ sym (ap (λ (l : List (List ℕ)). offset_within l x) split ∙ offset_stays_all rest (front ++ x ∷ []) x (Has-back front (x ∷ []) x (inl refl)) ∙ offset_last front x none);
     long = to.long ∙ ap (λ (l : List (List ℕ)). length (table_of l)) all_among;
   }
 
@@ -87,18 +87,18 @@ pub table_more : (out old : List ℕ) (hs : List (List ℕ)) (x : List ℕ) → 
 table_more out old hs x e = grind (arith, append_assoc, flat_map-append)
 
 -- a name that isn't empty, the index of its host, and the offset of the host
-pub record HasPlace (ks : List (List ℕ)) (host_indices places : List ℕ) (x : List ℕ) (i : ℕ) : Type 0 where
+pub record HasOffset (ks : List (List ℕ)) (host_indices places : List ℕ) (x : List ℕ) (i : ℕ) : Type 0 where
   pub inside : get_or host_indices i 0 < length ks
   pub shorter : length x ≤ length (name_at ks (get_or host_indices i 0))
   pub fits : get_or places (get_or host_indices i 0) 0 + length (name_at ks (get_or host_indices i 0)) < length (table_of (hosts_of ks))
   pub place : get_or places (get_or host_indices i 0) 0 + (length (name_at ks (get_or host_indices i 0)) - length x) ≡ shared_among ks x
 
-in_shared : (ks : List (List ℕ)) (x h : List ℕ) (n : ℕ) → 0 < length x → h ≡ host_in (hosts_of ks) x → n ≡ place_in (hosts_of ks) h → n + (length h - length x) ≡ shared_among ks x
+in_shared : (ks : List (List ℕ)) (x h : List ℕ) (n : ℕ) → 0 < length x → h ≡ host_in (hosts_of ks) x → n ≡ offset_within (hosts_of ks) h → n + (length h - length x) ≡ shared_among ks x
 in_shared ks [] h n some is place = absurd (omega (arith, some))
 in_shared ks (b ∷ bytes) h n some is place = grind arith
 
-pub has_place : (ks : List (List ℕ)) (host_indices places : List ℕ) (table_len : ℕ) → NoRepeats ks → AreShared ks host_indices places table_len → (x : List ℕ) (i : ℕ) → i < length ks → name_at ks i ≡ x → 0 < length x → HasPlace ks host_indices places x i
-has_place ks host_indices places table_len apart are x i low is some =
+pub has_offset : (ks : List (List ℕ)) (host_indices places : List ℕ) (table_len : ℕ) → NoRepeats ks → AreShared ks host_indices places table_len → (x : List ℕ) (i : ℕ) → i < length ks → name_at ks i ≡ x → 0 < length x → HasOffset ks host_indices places x i
+has_offset ks host_indices places table_len apart are x i low is some =
     let h = get_or host_indices i 0 in
     let name = name_at ks h in
     let have = are.have_hosts in
@@ -113,20 +113,20 @@ has_place ks host_indices places table_len apart are x i low is some =
     record {
       inside = inside;
       shorter = omega (arith, Ends-length x (host_in (hosts_of ks) x) its.ends, ap (λ (t : List ℕ). length t) host);
-      fits = omega (arith, place, place_room (hosts_of ks) name in_hosts);
+      fits = omega (arith, place, offset_room (hosts_of ks) name in_hosts);
       place = in_shared ks x name (get_or places h 0) some host place;
     }
 
 -- the same in the form that the code needs: the borrowed names, and what was read of the hosts and of their offsets
-pub record ReadsPlace (ks : List (List ℕ)) (names : List (Bor (List ℕ))) (x : List ℕ) (h n : ℕ) (d : Bor (List ℕ)) : Type 0 where
+pub record ReadsOffset (ks : List (List ℕ)) (names : List (Bor (List ℕ))) (x : List ℕ) (h n : ℕ) (d : Bor (List ℕ)) : Type 0 where
   pub shorter : length x ≤ length ((get_or names h d).now)
   pub fits : n + length ((get_or names h d).now) < 2 ^ 32
   pub place : n + (length ((get_or names h d).now) - length x) ≡ shared_among ks x
 
-pub reads_place : (ks : List (List ℕ)) (names : List (Bor (List ℕ))) (host_indices places : List ℕ) (table_len i h n : ℕ) (x : List ℕ) (d : Bor (List ℕ)) → d.now ≡ [] → borrowed_texts names ≡ ks → NoRepeats ks → AreShared ks host_indices places table_len
-    → i < length ks → name_at ks i ≡ x → 0 < length x → h ≡ get_or host_indices i h → n ≡ get_or places h n → ReadsPlace ks names x h n d
-reads_place ks names host_indices places table_len i h n x d none same apart are low is some h_is n_is =
-    let p = has_place ks host_indices places table_len apart are x i low is some in
+pub reads_offset : (ks : List (List ℕ)) (names : List (Bor (List ℕ))) (host_indices places : List ℕ) (table_len i h n : ℕ) (x : List ℕ) (d : Bor (List ℕ)) → d.now ≡ [] → borrowed_texts names ≡ ks → NoRepeats ks → AreShared ks host_indices places table_len
+    → i < length ks → name_at ks i ≡ x → 0 < length x → h ≡ get_or host_indices i h → n ≡ get_or places h n → ReadsOffset ks names x h n d
+reads_offset ks names host_indices places table_len i h n x d none same apart are low is some h_is n_is =
+    let p = has_offset ks host_indices places table_len apart are x i low is some in
     let host : h ≡ get_or host_indices i 0 = get_or_read host_indices i h (omega (arith, low, are.have_hosts.whole)) h_is 0 in
     let inside : h < length ks = omega (arith, host, p.inside) in
     let place : n ≡ get_or places (get_or host_indices i 0) 0 = get_or_read places h n (omega (arith, inside, are.are_placed.whole)) n_is 0 ∙ ap (λ (m : ℕ). get_or places m 0) host in

@@ -3,8 +3,8 @@ use Rattle.std.proofs.Common.{◌≡◌, ℕ, ◌+◌, ◌<◌, List, [], length
 use Rattle.std.specs.List.{Contains, Sorted.IsPermutation, Sorted.IsSorted, Sorted.IsSortedBy}
 use Rattle.std.proofs.lemmas.{List.length-map, List.get_or-map, List.get_or_default, List.same_lists}
 use Rattle.std.proofs.lemmas.List.Sorted.{All-permutation, Contains-permutation, IsPermutation-map}
-use Rattle.btf_types.specs.strings.SharedNames.{tail_cmp}
-use Rattle.btf_types.proofs.StringLemmas.Hosts.{tail_lt}
+use Rattle.btf_types.specs.strings.SharedNames.{suffix_cmp}
+use Rattle.btf_types.proofs.StringLemmas.Hosts.{suffix_lt}
 use Rattle.bpf_canon.specs.btf.names.Interned.{borrowed_texts, AreIndexed, name_at}
 use Rattle.bpf_canon.proofs.BtfLemmas.Names.{HostSearch.text_at, HostSearch.texts_length, HostIndices.Named, HostIndices.texts}
 
@@ -14,12 +14,12 @@ pub record IndexedTo (names : List (Bor (List ℕ))) (sorted : List Named) (k : 
   pub each : (j : ℕ) (d : Named) → j < k → get_or sorted j d ≡ (get_or names j d.0, j)
 
 -- sorted by the comparison, they are sorted as strings
-sorted_named : (sorted : List Named) → IsSortedBy (λ x y. tail_lt x.0.now y.0.now) sorted → IsSorted tail_cmp (texts sorted)
+sorted_named : (sorted : List Named) → IsSortedBy (λ x y. suffix_lt x.0.now y.0.now) sorted → IsSorted suffix_cmp (texts sorted)
 sorted_named sorted up k d low h =
     let e : Named = (record { ref_ptr = (0, 0); now = d }, 0) in
     let inside : k + 1 < length sorted = omega (arith, h, length-map sorted (λ (s : Named). s.0.now)) in
-    ap (λ (t : List ℕ). tail_lt t (get_or (texts sorted) k d)) (get_or-map (λ (s : Named). s.0.now) sorted (k + 1) e d inside)
-    ∙ ap (λ (t : List ℕ). tail_lt ((get_or sorted (k + 1) e).0.now) t) (get_or-map (λ (s : Named). s.0.now) sorted k e d (omega (arith, inside)))
+    ap (λ (t : List ℕ). suffix_lt t (get_or (texts sorted) k d)) (get_or-map (λ (s : Named). s.0.now) sorted (k + 1) e d inside)
+    ∙ ap (λ (t : List ℕ). suffix_lt ((get_or sorted (k + 1) e).0.now) t) (get_or-map (λ (s : Named). s.0.now) sorted k e d (omega (arith, inside)))
     ∙ up k e low inside
 
 module _ (names : List (Bor (List ℕ))) (before after : List Named) (to : IndexedTo names before (length names)) (perm : IsPermutation before after) where
@@ -32,7 +32,7 @@ module _ (names : List (Bor (List ℕ))) (before after : List Named) (to : Index
       let inside : k < length before = omega (arith, h, length-map before (λ (s : Named). s.0.now)) in
       get_or-map (λ (s : Named). s.0.now) before k e d inside ∙ ap (λ (s : Named). s.0.now) (to.each k e (omega (arith, inside, to.long))) ∙ sym (text_at names k e.0 (omega (arith, inside, to.long))))
 
-  pub indexed_sorted : IsSortedBy (λ x y. tail_lt x.0.now y.0.now) after → AreIndexed (borrowed_texts names) after
+  pub indexed_sorted : IsSortedBy (λ x y. suffix_lt x.0.now y.0.now) after → AreIndexed (borrowed_texts names) after
   indexed_sorted up = record {
     permutation = subst (λ (l : List (List ℕ)). IsPermutation l (texts after)) texts_are (IsPermutation-map (λ (s : Named). s.0.now) before after perm);
     in_order = sorted_named after up;

@@ -6,7 +6,7 @@ use Rattle.std.specs.List.{All}
 use Rattle.btf_types.proofs.{TabulateSteps.All-tabulate, TableLemmas.TableWalk.take_more, TableLemmas.TextSteps.decided}
 use Rattle.btf_raw.specs.{Frames.name_word, Frames.kind, Frames.vlen, Kinds.has_item_names}
 use Rattle.btf_raw.proofs.Texts.{TextAt-inside}
-use Rattle.btf_types.specs.tables.PlaceWords.{ReadsRecord}
+use Rattle.btf_types.specs.tables.OffsetWords.{ReadsRecord}
 use Rattle.btf_types.specs.Reading.{text_from, item_total, tabulate}
 use Rattle.bpf_canon.specs.btf.strings.FirstUses.{noted, noted_all}
 use Rattle.bpf_canon.specs.btf.write.NameOffsets.{item_word, name_offsets, all_offsets, IsBelow}

@@ -8,20 +8,20 @@ use Rattle.std.proofs.lemmas.Bool.{cases_Bool, cases_eq, cond-true, cond-false, 
 use Rattle.std.proofs.lemmas.List.{nil_from_length, length-append, length-set, get_or_default, get_or-set_same, get_or-set_other, map_more, map-append, take_all, take-append-drop, Concat.flat_map-append}
 use Rattle.btf_raw.specs.{Header.HasNulEnds, Names.TextAt}
 use Rattle.btf_raw.proofs.Texts.{TextAt-unique}
-use Rattle.btf_types.specs.{Names.kept, Names.with_nul, Names.table_of, Names.place_in, Reading.text_from}
+use Rattle.btf_types.specs.{Names.kept, Names.with_nul, Names.table_of, Names.offset_within, Reading.text_from}
 use Rattle.btf_types.proofs.Members.{Has, Has-from_Contains, Contains-from_Has}
 use Rattle.btf_types.proofs.TableLemmas.TextSteps.{text_there}
 use Rattle.btf_types.proofs.StringLemmas.Texts.{bytes_eq-same, same_text, Has-kept}
-use Rattle.bpf_canon.specs.btf.strings.DistinctNames.{distinct_table, distinct_place}
-use Rattle.bpf_canon.specs.btf.strings.DistinctPlaces.{Places, place_for, IsTableOf, HasPlace, AddsName, AreDistinct}
+use Rattle.bpf_canon.specs.btf.strings.DistinctNames.{distinct_table, distinct_offset}
+use Rattle.bpf_canon.specs.btf.strings.DistinctOffsets.{Places, offset_for, IsTableOf, HasOffset, AddsName, AreDistinct}
 use Rattle.bpf_canon.specs.btf.strings.{FirstUses.AreMarked, UsedOffsets.Used, UsedOffsets.number_of, UsedOffsets.used_count}
-use Rattle.bpf_canon.proofs.BtfLemmas.Names.KeptSteps.{Has_cases, kept_empty, kept_known, kept_new, place_stays, place_last, length-table_push}
-use Rattle.bpf_canon.proofs.BtfLemmas.Names.{Gathering.Has-front, Gathering.Has-back, HostTable.place_stays_all, HostTable.table_more}
+use Rattle.bpf_canon.proofs.BtfLemmas.Names.KeptSteps.{Has_cases, kept_empty, kept_known, kept_new, offset_stays, offset_last, length-table_push}
+use Rattle.bpf_canon.proofs.BtfLemmas.Names.{Gathering.Has-front, Gathering.Has-back, HostTable.offset_stays_all, HostTable.table_more}
 use Rattle.bpf_canon.proofs.BtfLemmas.Strings.{PlacedHosts.has_push, UsedSteps.used_inside, UsedSteps.number_inside, UsedSteps.number_injective}
 
-place_some : (xs : List (List ℕ)) (x : List ℕ) → 0 < length x → distinct_place xs x ≡ place_in (kept xs) x
-place_some xs [] some = absurd (omega (arith, some))
-place_some xs (b ∷ x) some = refl
+offset_some : (xs : List (List ℕ)) (x : List ℕ) → 0 < length x → distinct_offset xs x ≡ offset_within (kept xs) x
+offset_some xs [] some = absurd (omega (arith, some))
+offset_some xs (b ∷ x) some = refl
 
 not_empty : (x : List ℕ) → 0 < length x → x ≢ []
 not_empty x some e = omega (arith, some, ap (λ (t : List ℕ). length t) e)
@@ -48,40 +48,40 @@ same_key x y = elim (cases_Bool (bytes_eq x y)) [
 ]
 
 -- what a map has for each string after it was updated at one
-pub place_updated : (x y : List ℕ) (by_text more : Places) (place : ℕ)
-    → place_for more y ≡ cond (is_eq (ordering_then (nat_cmp (length x) (length y)) (slice_cmp nat_cmp x y))) (Some place) (place_for by_text y)
-    → place_for more y ≡ update bytes_eq (place_for by_text) x (Some place) y
-place_updated x y by_text more place e = e ∙ ap (λ (b : Bool). cond b (Some place) (place_for by_text y)) (same_key x y)
+pub offset_updated : (x y : List ℕ) (by_text more : Places) (place : ℕ)
+    → offset_for more y ≡ cond (is_eq (ordering_then (nat_cmp (length x) (length y)) (slice_cmp nat_cmp x y))) (Some place) (offset_for by_text y)
+    → offset_for more y ≡ update bytes_eq (offset_for by_text) x (Some place) y
+offset_updated x y by_text more place e = e ∙ ap (λ (b : Bool). cond b (Some place) (offset_for by_text y)) (same_key x y)
 
 -- what is known of a string that isn't among the strings of a table, or is
 module _ (ks : List (List ℕ)) (bytes : List ℕ) (by_text : Places) (t : IsTableOf ks bytes by_text) (x : List ℕ) where
-  there : (place : ℕ) → place_for by_text x ≡ Some place → Has ks x × (place ≡ place_in ks x)
+  there : (place : ℕ) → offset_for by_text x ≡ Some place → Has ks x × (place ≡ offset_within ks x)
   there place e = elim (Has_cases ks x) [
     | inl h ↦ let is = t.there x (Contains-from_Has ks x h) in (h, cc)
     | inr n ↦ let is = t.absent x (λ c. n (Has-from_Contains ks x c)) in absurd cc
   ]
 
-  gone : place_for by_text x ≡ None → ¬ Has ks x
+  gone : offset_for by_text x ≡ None → ¬ Has ks x
   gone e h = let is = t.there x (Contains-from_Has ks x h) in cc
 
 -- one string more
 module _ (ks : List (List ℕ)) (bytes new : List ℕ) (by_text more : Places) (x : List ℕ) (place : ℕ) (t : IsTableOf ks bytes by_text) (none : ¬ Has ks x) (place_is : place ≡ length bytes) (new_is : new ≡ (bytes ++ x) ++ 0 ∷ [])
-    (put : (y : List ℕ) → place_for more y ≡ update bytes_eq (place_for by_text) x (Some place) y) where
-  last_place : place ≡ place_in (ks ++ x ∷ []) x
-  last_place = place_is ∙ ap (λ (b : List ℕ). length b) t.bytes_are ∙ sym (place_last ks x none)
+    (put : (y : List ℕ) → offset_for more y ≡ update bytes_eq (offset_for by_text) x (Some place) y) where
+  last_offset : place ≡ offset_within (ks ++ x ∷ []) x
+  last_offset = place_is ∙ ap (λ (b : List ℕ). length b) t.bytes_are ∙ sym (offset_last ks x none)
 
-  put_here : (y : List ℕ) → x ≡ y → place_for more y ≡ Some place
-  put_here y e = put y ∙ cond-true (bytes_eq x y) (Some place) (place_for by_text y) (subst (λ (z : List ℕ). bytes_eq x z ≡ true) e (bytes_eq-same x))
+  put_here : (y : List ℕ) → x ≡ y → offset_for more y ≡ Some place
+  put_here y e = put y ∙ cond-true (bytes_eq x y) (Some place) (offset_for by_text y) (subst (λ (z : List ℕ). bytes_eq x z ≡ true) e (bytes_eq-same x))
 
-  put_there : (y : List ℕ) → x ≢ y → place_for more y ≡ place_for by_text y
-  put_there y n = put y ∙ cond-false (bytes_eq x y) (Some place) (place_for by_text y) (false_from_ne_true (bytes_eq x y) (λ s. n (same_text x y s)))
+  put_there : (y : List ℕ) → x ≢ y → offset_for more y ≡ offset_for by_text y
+  put_there y n = put y ∙ cond-false (bytes_eq x y) (Some place) (offset_for by_text y) (false_from_ne_true (bytes_eq x y) (λ s. n (same_text x y s)))
 
   table_pushed : IsTableOf (ks ++ x ∷ []) new more
   table_pushed = record {
     bytes_are = new_is ∙ table_more bytes [] ks x t.bytes_are;
     there = λ y c. elim (has_push ks x y (Has-from_Contains (ks ++ x ∷ []) y c)) [
-      | inl h ↦ put_there y (λ e. none (subst (Has ks) (sym e) h)) ∙ t.there y (Contains-from_Has ks y h) ∙ ap Some (sym (place_stays ks x y h))
-      | inr e ↦ put_here y e ∙ ap Some (last_place ∙ ap (place_in (ks ++ x ∷ [])) e)
+      | inl h ↦ put_there y (λ e. none (subst (Has ks) (sym e) h)) ∙ t.there y (Contains-from_Has ks y h) ∙ ap Some (sym (offset_stays ks x y h))
+      | inr e ↦ put_here y e ∙ ap Some (last_offset ∙ ap (offset_within (ks ++ x ∷ [])) e)
     ];
     absent = λ y n.
         put_there y (λ e. n (Contains-from_Has (ks ++ x ∷ []) y (Has-back ks (x ∷ []) y (inl e))))
@@ -90,34 +90,34 @@ module _ (ks : List (List ℕ)) (bytes new : List ℕ) (by_text more : Places) (
 
 -- the table of the names so far, and of one more: it is empty, or there already, or new
 module _ (xs : List (List ℕ)) (bytes : List ℕ) (by_text : Places) (x : List ℕ) (limit : ℕ) (t : IsTableOf (kept xs) bytes by_text) (within : length bytes ≤ limit) where
-  new_kept : 0 < length x → place_for by_text x ≡ None → kept (xs ++ x ∷ []) ≡ kept xs ++ x ∷ []
+  new_kept : 0 < length x → offset_for by_text x ≡ None → kept (xs ++ x ∷ []) ≡ kept xs ++ x ∷ []
   new_kept some absent = kept_new xs x (not_empty x some) (gone (kept xs) bytes by_text t x absent)
 
-  pub adds_empty : length x ≡ 0 → HasPlace (xs ++ x ∷ []) bytes by_text x limit 0
+  pub adds_empty : length x ≡ 0 → HasOffset (xs ++ x ∷ []) bytes by_text x limit 0
   adds_empty z =
       let e : x ≡ [] = nil_from_length x z in
       record {
         table = subst (λ (y : List ℕ). IsTableOf (kept (xs ++ y ∷ [])) bytes by_text) (sym e) (subst (λ ks. IsTableOf ks bytes by_text) (sym (kept_empty xs)) t);
         within = within;
-        place_is = ap (distinct_place (xs ++ x ∷ [])) (sym e);
+        place_is = ap (distinct_offset (xs ++ x ∷ [])) (sym e);
       }
 
-  pub adds_known : (place : ℕ) → 0 < length x → place_for by_text x ≡ Some place → HasPlace (xs ++ x ∷ []) bytes by_text x limit place
+  pub adds_known : (place : ℕ) → 0 < length x → offset_for by_text x ≡ Some place → HasOffset (xs ++ x ∷ []) bytes by_text x limit place
   adds_known place some found =
       let has = there (kept xs) bytes by_text t x place found in
       let same = kept_known xs x has.0 in
       record {
         table = subst (λ ks. IsTableOf ks bytes by_text) (sym same) t;
         within = within;
-        place_is = has.1 ∙ ap (λ ks. place_in ks x) (sym same) ∙ sym (place_some (xs ++ x ∷ []) x some);
+        place_is = has.1 ∙ ap (λ ks. offset_within ks x) (sym same) ∙ sym (offset_some (xs ++ x ∷ []) x some);
       }
 
-  pub adds_none : 0 < length x → place_for by_text x ≡ None → limit - length bytes ≤ length x → limit < length (distinct_table (xs ++ x ∷ []))
+  pub adds_none : 0 < length x → offset_for by_text x ≡ None → limit - length bytes ≤ length x → limit < length (distinct_table (xs ++ x ∷ []))
   adds_none some absent full =
       omega (arith, full, within, ap (λ (b : List ℕ). length b) t.bytes_are, length-table_push (kept xs) x, ap (λ ks. length (table_of ks)) (new_kept some absent))
 
-  pub adds_new : (new : List ℕ) (more : Places) (place : ℕ) → 0 < length x → place_for by_text x ≡ None → length x < limit - length bytes → place ≡ length bytes → new ≡ (bytes ++ x) ++ 0 ∷ []
-      → ((y : List ℕ) → place_for more y ≡ update bytes_eq (place_for by_text) x (Some place) y) → HasPlace (xs ++ x ∷ []) new more x limit place
+  pub adds_new : (new : List ℕ) (more : Places) (place : ℕ) → 0 < length x → offset_for by_text x ≡ None → length x < limit - length bytes → place ≡ length bytes → new ≡ (bytes ++ x) ++ 0 ∷ []
+      → ((y : List ℕ) → offset_for more y ≡ update bytes_eq (offset_for by_text) x (Some place) y) → HasOffset (xs ++ x ∷ []) new more x limit place
   adds_new new more place some absent room place_is new_is put =
       let none = gone (kept xs) bytes by_text t x absent in
       let same = new_kept some absent in
@@ -125,7 +125,7 @@ module _ (xs : List (List ℕ)) (bytes : List ℕ) (by_text : Places) (x : List 
       record {
         table = subst (λ ks. IsTableOf ks new more) (sym same) pushed;
         within = omega (arith, room, within, ap (λ (b : List ℕ). length b) pushed.bytes_are, ap (λ (b : List ℕ). length b) t.bytes_are, length-table_push (kept xs) x);
-        place_is = last_place (kept xs) bytes new by_text more x place t none place_is new_is put ∙ ap (λ ks. place_in ks x) (sym same) ∙ sym (place_some (xs ++ x ∷ []) x some);
+        place_is = last_offset (kept xs) bytes new by_text more x place t none place_is new_is put ∙ ap (λ ks. offset_within ks x) (sym same) ∙ sym (offset_some (xs ++ x ∷ []) x some);
       }
 
 -- the names of a list stay in longer lists
@@ -144,18 +144,18 @@ table_grows xs ys =
     let more = kept_grows xs ys in
     omega (arith, ap (λ ks. length (table_of ks)) more.1, ap (λ (t : List ℕ). length t) (flat_map-append with_nul (kept xs) more.0), length-append (flat_map with_nul (kept xs)) (flat_map with_nul more.0))
 
-place_stays_in : (xs ys : List (List ℕ)) (x : List ℕ) → Has xs x → distinct_place (xs ++ ys) x ≡ distinct_place xs x
-place_stays_in xs ys [] h = refl
-place_stays_in xs ys (b ∷ x) h =
+offset_stays_in : (xs ys : List (List ℕ)) (x : List ℕ) → Has xs x → distinct_offset (xs ++ ys) x ≡ distinct_offset xs x
+offset_stays_in xs ys [] h = refl
+offset_stays_in xs ys (b ∷ x) h =
     let more = kept_grows xs ys in
-    ap (λ ks. place_in ks (b ∷ x)) more.1 ∙ place_stays_all more.0 (kept xs) (b ∷ x) (Has-kept xs b x h)
+    ap (λ ks. offset_within ks (b ∷ x)) more.1 ∙ offset_stays_all more.0 (kept xs) (b ∷ x) (Has-kept xs b x h)
 
 -- the offsets of the first k names are stored, and the table is that of these names
 pub record PlacedTo (section : List ℕ) (used : Used) (bytes places : List ℕ) (by_text : Places) (limit k : ℕ) : Type 0 where
   pub table : IsTableOf (kept (map (text_from section) (take k used.offsets))) bytes by_text
   pub within : length bytes ≤ limit
   pub whole : length places ≡ used_count used
-  pub each : (j : ℕ) → j < k → get_or places (number_of used (get_or used.offsets j 0)) 0 ≡ distinct_place (map (text_from section) used.offsets) (text_from section (get_or used.offsets j 0))
+  pub each : (j : ℕ) → j < k → get_or places (number_of used (get_or used.offsets j 0)) 0 ≡ distinct_offset (map (text_from section) used.offsets) (text_from section (get_or used.offsets j 0))
 
 module _ (section : List ℕ) (used : Used) (marked : AreMarked used.offsets used.slots) (limit : ℕ) where
   abbrev names : List (List ℕ)
@@ -177,14 +177,14 @@ module _ (section : List ℕ) (used : Used) (marked : AreMarked used.offsets use
       ∙ ap (λ xs. xs ++ map (text_from section) (drop (k + 1) used.offsets)) (map_more (text_from section) used.offsets k 0 inside)
 
   -- the offset of a name that was added last is its offset in the table of all names
-  place_here : (k place : ℕ) → k < length used.offsets → place ≡ distinct_place (taken k ++ own k ∷ []) (own k) → place ≡ distinct_place names (own k)
+  place_here : (k place : ℕ) → k < length used.offsets → place ≡ distinct_offset (taken k ++ own k ∷ []) (own k) → place ≡ distinct_offset names (own k)
   place_here k place inside is =
-      is ∙ sym (place_stays_in (taken k ++ own k ∷ []) (map (text_from section) (drop (k + 1) used.offsets)) (own k) (Has-back (taken k) (own k ∷ []) (own k) (inl refl)))
-      ∙ ap (λ xs. distinct_place xs (own k)) (sym (split k inside))
+      is ∙ sym (offset_stays_in (taken k ++ own k ∷ []) (map (text_from section) (drop (k + 1) used.offsets)) (own k) (Has-back (taken k) (own k ∷ []) (own k) (inl refl)))
+      ∙ ap (λ xs. distinct_offset xs (own k)) (sym (split k inside))
 
-  places_one : (bytes places new : List ℕ) (by_text more : Places) (k place : ℕ) → PlacedTo section used bytes places by_text limit k → k < length used.offsets
-      → HasPlace (taken k ++ own k ∷ []) new more (own k) limit place → PlacedTo section used new (set places (number_of used (get_or used.offsets k 0)) place) more limit (k + 1)
-  places_one bytes places new by_text more k place to inside has =
+  offsets_one : (bytes places new : List ℕ) (by_text more : Places) (k place : ℕ) → PlacedTo section used bytes places by_text limit k → k < length used.offsets
+      → HasOffset (taken k ++ own k ∷ []) new more (own k) limit place → PlacedTo section used new (set places (number_of used (get_or used.offsets k 0)) place) more limit (k + 1)
+  offsets_one bytes places new by_text more k place to inside has =
       let n = number_of used (get_or used.offsets k 0) in
       record {
         table = subst (λ xs. IsTableOf (kept xs) new more) (sym (map_more (text_from section) used.offsets k 0 inside)) has.table;
@@ -195,25 +195,25 @@ module _ (section : List ℕ) (used : Used) (marked : AreMarked used.offsets use
               let off : get_or used.offsets j 0 ≡ get_or used.offsets k 0 = number_injective used.slots (get_or used.offsets j 0) (get_or used.offsets k 0) (is_used j (omega (arith, low, inside))) (is_used k inside) same in
               ap (λ (m : ℕ). get_or (set places n place) m 0) same
               ∙ get_or-set_same places n place 0 (omega (arith, to.whole, number_inside used.slots (get_or used.offsets k 0) (is_used k inside)))
-              ∙ place_here k place inside has.place_is ∙ ap (λ (o : ℕ). distinct_place names (text_from section o)) (sym off)
+              ∙ place_here k place inside has.place_is ∙ ap (λ (o : ℕ). distinct_offset names (text_from section o)) (sym off)
           | inr other ↦
               let before : j ≢ k = λ e. other (ap (λ (m : ℕ). number_of used (get_or used.offsets m 0)) e) in
               get_or-set_other places n (number_of used (get_or used.offsets j 0)) place 0 other ∙ to.each j (omega (arith, low, before))
         ];
       }
 
-  places_past : (k : ℕ) → k < length used.offsets → limit < length (distinct_table (taken k ++ own k ∷ [])) → limit < length (distinct_table names)
-  places_past k inside past = omega (arith, past, table_grows (taken k ++ own k ∷ []) (map (text_from section) (drop (k + 1) used.offsets)), ap (λ xs. length (distinct_table xs)) (split k inside))
+  offsets_past : (k : ℕ) → k < length used.offsets → limit < length (distinct_table (taken k ++ own k ∷ [])) → limit < length (distinct_table names)
+  offsets_past k inside past = omega (arith, past, table_grows (taken k ++ own k ∷ []) (map (text_from section) (drop (k + 1) used.offsets)), ap (λ xs. length (distinct_table xs)) (split k inside))
 
   -- one name more, by what was found of it
   pub name_step : (bytes places new : List ℕ) (by_text more : Places) (k n : ℕ) (x : List ℕ) (found : Option ℕ) → PlacedTo section used bytes places by_text limit k → k < length used.offsets → x ≡ own k → n ≡ number_of used (get_or used.offsets k 0)
       → AddsName bytes by_text new more x limit found
       → MatchOption found (limit < length (distinct_table names)) (λ place. PlacedTo section used new (set places n place) more limit (k + 1))
   name_step bytes places new by_text more k n x None to inside x_is n_is adds =
-      places_past k inside (subst (λ (y : List ℕ). limit < length (distinct_table (taken k ++ y ∷ []))) x_is (adds (taken k) to.table))
+      offsets_past k inside (subst (λ (y : List ℕ). limit < length (distinct_table (taken k ++ y ∷ []))) x_is (adds (taken k) to.table))
   name_step bytes places new by_text more k n x (Some place) to inside x_is n_is adds =
       subst (λ (m : ℕ). PlacedTo section used new (set places m place) more limit (k + 1)) (sym n_is)
-      (places_one bytes places new by_text more k place to inside (subst (λ (y : List ℕ). HasPlace (taken k ++ y ∷ []) new more y limit place) x_is (adds (taken k) to.table)))
+      (offsets_one bytes places new by_text more k place to inside (subst (λ (y : List ℕ). HasOffset (taken k ++ y ∷ []) new more y limit place) x_is (adds (taken k) to.table)))
 
   pub placed_all : (bytes places : List ℕ) (by_text : Places) (k : ℕ) → limit < 2 ^ 32 → PlacedTo section used bytes places by_text limit k → length used.offsets ≤ k → AreDistinct section used places bytes
   placed_all bytes places by_text k low to past = record {
@@ -221,7 +221,7 @@ module _ (section : List ℕ) (used : Used) (marked : AreMarked used.offsets use
     numbers = to.whole;
     place = λ off c.
         let is : get_or used.offsets c.0 0 ≡ off = get_or_default used.offsets c.0 0 off c.1 ∙ c.2 in
-        subst (λ (o : ℕ). get_or places (number_of used o) 0 ≡ distinct_place names (text_from section o)) is (to.each c.0 (omega (arith, past, c.1)));
+        subst (λ (o : ℕ). get_or places (number_of used o) 0 ≡ distinct_offset names (text_from section o)) is (to.each c.0 (omega (arith, past, c.1)));
     bytes_are = to.table.bytes_are ∙ ap (λ (offs : List ℕ). distinct_table (map (text_from section) offs)) (take_all k used.offsets past);
     fits = omega (arith, low, to.within);
   }

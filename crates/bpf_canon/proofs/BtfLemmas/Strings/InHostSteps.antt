@@ -4,13 +4,13 @@ use Rattle.std.specs.List.{All}
 use Rattle.std.proofs.lemmas.Bool.{cases_eq}
 use Rattle.std.proofs.lemmas.List.{get_or-map, length-map, length-set, get_or-set_same, get_or-set_other, get_or_default, get_or_read}
 use Rattle.btf_types.specs.Reading.{text_from}
-use Rattle.btf_types.specs.strings.{SharedNames.is_suffix, CommonTails.at_rank, CommonTails.IsFirstRank, CommonTails.IsNextHost}
+use Rattle.btf_types.specs.strings.{SharedNames.is_suffix, CommonSuffixes.at_rank, CommonSuffixes.IsFirstRank, CommonSuffixes.IsNextHost}
 use Rattle.btf_types.proofs.StringLemmas.Suffixes.{Ends, Ends-refl, Ends-trans, Ends-length, Ends-from_suffix, suffix_from_Ends}
-use Rattle.btf_types.proofs.StringLemmas.CommonTails.{first_ends, rank_has_host}
+use Rattle.btf_types.proofs.StringLemmas.CommonSuffixes.{first_ends, rank_has_host}
 use Rattle.bpf_canon.specs.btf.strings.{SectionTexts.text_in, Ranks.AreRanked, UsedOffsets.offset_number}
 use Rattle.bpf_canon.specs.btf.strings.Longest.{IsUsed, IsInText, AreLongestOf}
 use Rattle.bpf_canon.specs.btf.strings.InHost.{IsInHost, no_text, host_at, FindsWithin, AreInHosts, HostsTo}
-use Rattle.bpf_canon.specs.declared.btf.strings.{ranked_texts.SectionText.SectionText, shared_places.InHost.InHost}
+use Rattle.bpf_canon.specs.declared.btf.strings.{ranked_texts.SectionText.SectionText, shared_offsets.InHost.InHost}
 use Rattle.bpf_canon.proofs.BtfLemmas.Strings.{UsedSteps.number_injective, UsedSteps.number_inside, UsedSteps.used_inside, RankSteps.first_rank_is}
 use Rattle.bpf_canon.proofs.BtfLemmas.Strings.LongestSteps.{used_length, within_length, within_ends}
 

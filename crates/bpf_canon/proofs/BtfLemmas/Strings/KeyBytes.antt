@@ -3,7 +3,7 @@ use Rattle.std.proofs.Common.{◌≡◌, ◌≢◌, ℕ, ◌+◌, ◌-◌, ◌<�
 use Rattle.std.specs.{Prelude.reverse, Int.w64, Int.to_le_bytes}
 use Rattle.std.proofs.lemmas.{Bool.cases_lt, Nat.le_bytes_8}
 use Rattle.std.proofs.lemmas.List.{get_or-reverse, get_or-drop, get_or-replicate, get_or_append_left, get_or-append_right, get_or_past, length-append, length-drop, length-replicate, length-reverse, length-take-le, get_or-take}
-use Rattle.btf_types.specs.strings.CommonTails.{common_tail}
+use Rattle.btf_types.specs.strings.CommonSuffixes.{common_tail}
 use Rattle.bpf_canon.specs.btf.strings.{SuffixKeys.suffix_key, SectionTexts.text_before}
 use Rattle.bpf_canon.proofs.BtfLemmas.Strings.{SuffixKeys.key_of_long, SuffixKeys.key_of_short, RankSteps.front_stops, RankSteps.front_ends}
 

@@ -3,10 +3,10 @@ use Rattle.std.proofs.Common.{◌≡◌, ◌≢◌, ℕ, zero, suc, ◌+◌, ◌
 use Rattle.std.specs.{Prelude.reverse, List.All, List.Sorted.IsSorted}
 use Rattle.std.proofs.lemmas.Bool.{cond-true, cond-false, eq-eqb, ne_eqb, false_from_ne_true}
 use Rattle.std.proofs.lemmas.List.{get_or-reverse, length-reverse, get_or-map, get_or-set_same, get_or-set_other}
-use Rattle.btf_types.specs.{Names.kept, strings.SharedNames.is_suffix, strings.SharedNames.tail_cmp}
+use Rattle.btf_types.specs.{Names.kept, strings.SharedNames.is_suffix, strings.SharedNames.suffix_cmp}
 use Rattle.btf_types.proofs.Members.{Has-from_Contains, Contains-from_Has}
-use Rattle.btf_types.proofs.StringLemmas.{Texts.Has-from_kept, Longest.Has-kept_some, CommonTails.suffix_by_tail}
-use Rattle.btf_types.specs.strings.CommonTails.{common_front, common_tail, at_rank, IsNextHost, IsFirstRank, AreInTailOrder}
+use Rattle.btf_types.proofs.StringLemmas.{Texts.Has-from_kept, Longest.Has-kept_some, CommonSuffixes.suffix_by_order}
+use Rattle.btf_types.specs.strings.CommonSuffixes.{common_front, common_tail, at_rank, IsNextHost, IsFirstRank, AreInSuffixOrder}
 use Rattle.bpf_canon.specs.{btf.strings.Ranks.common_before, btf.strings.Ranks.AreCommon, declared.btf.strings.ranked_texts.SectionText.SectionText}
 
 front_same : (a b : ℕ) (x y : List ℕ) → a ≡ b → common_front (a ∷ x) (b ∷ y) ≡ 1 + common_front x y
@@ -56,14 +56,14 @@ common_more ms items k n inside f here j h = grind (arith, get_or-set_same, get_
 
 -- the loop over hosts
 ends_from : (ms : List (List ℕ)) (k : ℕ) → common_before ms (k + 1) ≡ length (at_rank ms k) → is_suffix (at_rank ms k) (at_rank ms (k + 1)) ≡ true
-ends_from ms k e = (suffix_by_tail (at_rank ms k) (at_rank ms (k + 1))).suffix (omega (arith, e, common_next ms k))
+ends_from ms k e = (suffix_by_order (at_rank ms k) (at_rank ms (k + 1))).suffix (omega (arith, e, common_next ms k))
 
 pub next_own : (ms : List (List ℕ)) (k : ℕ) → k < length ms → (k + 1 < length ms → common_before ms (k + 1) ≢ length (at_rank ms k)) → IsNextHost ms k k
 next_own ms k h differs = record {
   inside = h;
   from = omega arith;
   passed = λ j low high. absurd (omega (arith, low, high));
-  stops = λ more. false_from_ne_true (is_suffix (at_rank ms k) (at_rank ms (k + 1))) (λ t. differs more (common_next ms k ∙ (suffix_by_tail (at_rank ms k) (at_rank ms (k + 1))).whole t));
+  stops = λ more. false_from_ne_true (is_suffix (at_rank ms k) (at_rank ms (k + 1))) (λ t. differs more (common_next ms k ∙ (suffix_by_order (at_rank ms k) (at_rank ms (k + 1))).whole t));
 }
 
 pub next_taken : (ms : List (List ℕ)) (k r : ℕ) → common_before ms (k + 1) ≡ length (at_rank ms k) → IsNextHost ms (k + 1) r → IsNextHost ms k r
@@ -84,8 +84,8 @@ first_rank_is ms common n r k are inside before f less = record {
 }
 
 -- the sorted strings of a list are in order by their reversed bytes
-pub in_tail_order : (ms : List (List ℕ)) → IsSorted tail_cmp ms → All (λ t. 0 < length t) ms → AreInTailOrder (kept ms) ms
-in_tail_order ms up some = grind (arith, Contains-from_Has, Has-from_kept, Has-from_Contains, Has-kept_some)
+pub in_suffix_order : (ms : List (List ℕ)) → IsSorted suffix_cmp ms → All (λ t. 0 < length t) ms → AreInSuffixOrder (kept ms) ms
+in_suffix_order ms up some = grind (arith, Contains-from_Has, Has-from_kept, Has-from_Contains, Has-kept_some)
 
 -- what the search cites of a common suffix
 pub ruleset suffix_cases = (common_stops, common_ends)

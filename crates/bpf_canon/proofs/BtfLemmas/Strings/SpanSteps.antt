@@ -4,8 +4,8 @@ use Rattle.std.proofs.lemmas.Grind.{common_steps}
 use Rattle.std.specs.List.{All, flat_map}
 use Rattle.std.proofs.Math.Seq.{take-add}
 use Rattle.std.proofs.lemmas.List.{append-nil, Elements.All-set}
-use Rattle.bpf_canon.specs.btf.strings.HostPlaces.{span_bytes, IsSpan, HasText}
-use Rattle.bpf_canon.specs.declared.btf.strings.shared_places.Span.{Span}
+use Rattle.bpf_canon.specs.btf.strings.HostOffsets.{span_bytes, IsSpan, HasText}
+use Rattle.bpf_canon.specs.declared.btf.strings.shared_offsets.Span.{Span}
 use Rattle.bpf_canon.proofs.BtfLemmas.Strings.LongestSteps.{drop_more}
 
 -- a span more

@@ -9,7 +9,7 @@ use Rattle.std.proofs.lemmas.{Cmp.nat_cmp_total, Cmp.nat_list_cmp_total, Cmp.tie
 use Rattle.std.proofs.lemmas.List.{reverse-append, length-reverse, length-append, length-drop, length-replicate, take-replicate, drop_all, append-nil}
 use borrow.Rule.Slice.PartMut.{put_mid}
 use Rattle.std.proofs.Math.Nat.{one-le-pow, pow-suc}
-use Rattle.btf_types.specs.strings.SharedNames.{tail_cmp}
+use Rattle.btf_types.specs.strings.SharedNames.{suffix_cmp}
 use Rattle.bpf_canon.specs.btf.strings.SuffixKeys.{front_key, suffix_key}
 
 -- each is below 256
@@ -139,7 +139,7 @@ key_of_padded x m k e n =
     ap (from_le_bytes w64) padded ∙ key_of_short x m e
 
 -- from keys to strings
-pub key_apart : (x y : List ℕ) → ((i : ℕ) → get_or x i 0 < 256) → ((i : ℕ) → get_or y i 0 < 256) → suffix_key x ≢ suffix_key y → nat_cmp (suffix_key x) (suffix_key y) ≡ tail_cmp x y
+pub key_apart : (x y : List ℕ) → ((i : ℕ) → get_or x i 0 < 256) → ((i : ℕ) → get_or y i 0 < 256) → suffix_key x ≢ suffix_key y → nat_cmp (suffix_key x) (suffix_key y) ≡ suffix_cmp x y
 unfolding suffix_key
 key_apart x y p q n =
     let bx = bytes_turned x (bytes_from x p) in
@@ -152,7 +152,7 @@ key_apart x y p q n =
       ]
     ]
 
-pub key_alike : (x y : List ℕ) (n m : ℕ) → ((i : ℕ) → get_or x i 0 < 256) → ((i : ℕ) → get_or y i 0 < 256) → suffix_key x ≡ suffix_key y → length x ≡ n + 8 → length y ≡ m + 8 → tail_cmp (take n x) (take m y) ≡ tail_cmp x y
+pub key_alike : (x y : List ℕ) (n m : ℕ) → ((i : ℕ) → get_or x i 0 < 256) → ((i : ℕ) → get_or y i 0 < 256) → suffix_key x ≡ suffix_key y → length x ≡ n + 8 → length y ≡ m + 8 → suffix_cmp (take n x) (take m y) ≡ suffix_cmp x y
 unfolding suffix_key
 key_alike x y n m p q e l k =
     let cut : reverse x ≡ reverse (drop n x) ++ reverse (take n x) = ap reverse (sym (take-append-drop n x)) ∙ reverse-append (take n x) (drop n x) in
@@ -163,7 +163,7 @@ key_alike x y n m p q e l k =
     (subst Bytes cut (bytes_turned x (bytes_from x p))) (subst Bytes cut_y (bytes_turned y (bytes_from y q)))
     (ap (front_key 8) (sym cut) ∙ e ∙ ap (front_key 8) cut_y))
 
-pub key_ends : (x y : List ℕ) → ((i : ℕ) → get_or x i 0 < 256) → ((i : ℕ) → get_or y i 0 < 256) → suffix_key x ≡ suffix_key y → (length x < 8) ⊎ (length y < 8) → nat_cmp (length x) (length y) ≡ tail_cmp x y
+pub key_ends : (x y : List ℕ) → ((i : ℕ) → get_or x i 0 < 256) → ((i : ℕ) → get_or y i 0 < 256) → suffix_key x ≡ suffix_key y → (length x < 8) ⊎ (length y < 8) → nat_cmp (length x) (length y) ≡ suffix_cmp x y
 unfolding suffix_key
 key_ends x y p q e s =
     let less_turned : (length (reverse x) < 8) ⊎ (length (reverse y) < 8) = elim s [ inl l ↦ inl (omega (arith, l, length-reverse x)) | inr l ↦ inr (omega (arith, l, length-reverse y)) ] in

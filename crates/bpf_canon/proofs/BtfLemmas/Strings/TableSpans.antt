@@ -7,7 +7,7 @@ use Rattle.std.proofs.lemmas.List.{length-append, length-drop}
 use Rattle.btf_raw.specs.Header.{HasNulEnds}
 use Rattle.btf_types.specs.{Names.with_nul, Reading.text_from}
 use Rattle.btf_types.proofs.TableLemmas.TextSteps.{text_there}
-use Rattle.bpf_canon.specs.{btf.strings.HostPlaces.span_bytes, btf.strings.HostPlaces.IsSpan, declared.btf.strings.shared_places.Span.Span}
+use Rattle.bpf_canon.specs.{btf.strings.HostOffsets.span_bytes, btf.strings.HostOffsets.IsSpan, declared.btf.strings.shared_offsets.Span.Span}
 
 -- the span of the string at an offset
 pub record SpanOf (section : List ℕ) (off : ℕ) (s : Span) : Type 0 where

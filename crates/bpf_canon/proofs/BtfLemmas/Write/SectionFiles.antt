@@ -6,7 +6,7 @@ use Rattle.bpf_words.specs.declared.Order.{Order}
 use Rattle.btf_raw.specs.{Header.header, Header.TYPES_LIMIT, Header.STRINGS_LIMIT, Frames.section_of}
 use Rattle.btf_types.specs.{Values.TypeRecord, Valid.facts, Sections.SectionWords, Sections.records_in, tables.TableInvariant.IsTable}
 use Rattle.btf_types.specs.{Names.names, Names.kept, Names.table_of, Reading.text_from}
-use Rattle.btf_types.specs.strings.SharedNames.{hosts_of, shared_among, shared_table, shared_place}
+use Rattle.btf_types.specs.strings.SharedNames.{hosts_of, shared_among, shared_table, shared_offset}
 use Rattle.btf_types.proofs.Members.{Has-get_or}
 use Rattle.bpf_canon.specs.btf.CanonicalBtf.{canonical, canonical_types, record_words}
 use Rattle.bpf_canon.specs.btf.{strings.FirstUses.noted_all, write.NameOffsets.all_offsets}
@@ -39,9 +39,9 @@ module _ (s : SectionWords) (table : IsTable s) where
 
   pub sections_written : (from to : Order) (types : List ℕ) (xs : List (List ℕ)) (front more whole : List ℕ) (t u : ℕ) → types ≡ section_of from s.frames → kept xs ≡ kept (names its)
       → t ≡ length types → u ≡ length (shared_table xs) → front ≡ header to 24 0 t t u
-      → more ≡ front ++ section_of to (map (record_words (shared_place xs)) its) → whole ≡ more ++ shared_table xs → whole ≡ canonical to its
+      → more ≡ front ++ section_of to (map (record_words (shared_offset xs)) its) → whole ≡ more ++ shared_table xs → whole ≡ canonical to its
   sections_written from to types xs front more whole t u section same tl ul e1 e2 e3 =
-      let written_types = section_of to (map (record_words (shared_place xs)) its) in
+      let written_types = section_of to (map (record_words (shared_offset xs)) its) in
       let long : length written_types ≡ length (canonical_types to its) = ap (λ ks. length (section_of to (map (record_words (shared_among ks)) its))) same in
       written to its (kept xs) written_types front more whole t u same refl (tl ∙ types_same from to types section ∙ sym long) ul e1 e2 e3
 

@@ -1,8 +1,8 @@
 -- The contents of maps and sets of borrowed strings.
 use Rattle.std.specs.Prelude.{◌≡◌, ◌⊎◌, ◌<◌, ◌^◌, ℕ, List, [], ◌∷◌, ◌++◌, length, map, slice_index, slice_index_or}
 use Rattle.std.specs.{Borrow.Bor, List.All, List.Contains, List.Sorted.IsPermutation, List.Sorted.IsSorted}
-use Rattle.btf_types.specs.Names.{kept, table_of, place_in}
-use Rattle.btf_types.specs.strings.SharedNames.{tail_cmp, hosts_of, host_in}
+use Rattle.btf_types.specs.Names.{kept, table_of, offset_within}
+use Rattle.btf_types.specs.strings.SharedNames.{suffix_cmp, hosts_of, host_in}
 
 -- the borrowed strings
 abbrev pub borrowed_texts : List (Bor (List ℕ)) → List (List ℕ)
@@ -27,7 +27,7 @@ name_at ks i = slice_index_or ks i []
 -- The names with their indices, sorted by their reversed bytes.
 pub record AreIndexed (ks : List (List ℕ)) (sorted : List (Bor (List ℕ) × ℕ)) : Type 0 where
   pub permutation : IsPermutation ks (map (λ s. s.0.now) sorted)
-  pub in_order : IsSorted tail_cmp (map (λ s. s.0.now) sorted)
+  pub in_order : IsSorted suffix_cmp (map (λ s. s.0.now) sorted)
   pub inside : All (λ s. s.1 < length ks) sorted
   pub names : All (λ s. name_at ks s.1 ≡ s.0.now) sorted
   pub each : (i : ℕ) → i < length ks → Contains (map (λ s. s.1) sorted) i
@@ -41,7 +41,7 @@ pub record HaveHosts (ks : List (List ℕ)) (host_indices : List ℕ) : Type 0 w
 -- each name that is its own host has its offset in their table, which has this length
 pub record ArePlacedHosts (ks : List (List ℕ)) (host_indices places : List ℕ) (table_len : ℕ) : Type 0 where
   pub whole : length places ≡ length ks
-  pub each : (i : ℕ) → i < length ks → slice_index host_indices i ≡ i → slice_index places i ≡ place_in (hosts_of ks) (name_at ks i)
+  pub each : (i : ℕ) → i < length ks → slice_index host_indices i ≡ i → slice_index places i ≡ offset_within (hosts_of ks) (name_at ks i)
   pub long : table_len ≡ length (table_of (hosts_of ks))
 
 -- What is stored for the kept names: the host of each, and the offset of each host.

@@ -1,11 +1,11 @@
 -- The positions of names in their hosts.
 use Rattle.std.specs.Prelude.{◌≡◌, ◌≢◌, ℕ, ◌+◌, ◌^◌, ◌<◌, false, List, length, slice_index, slice_index_or}
 use Rattle.btf_types.specs.Reading.{text_from}
-use Rattle.btf_types.specs.strings.{SharedNames.is_suffix, SharedNames.hosts_of, SharedNames.host_in, CommonTails.at_rank, CommonTails.AreInTailOrder}
+use Rattle.btf_types.specs.strings.{SharedNames.is_suffix, SharedNames.hosts_of, SharedNames.host_in, CommonSuffixes.at_rank, CommonSuffixes.AreInSuffixOrder}
 use Rattle.bpf_canon.specs.btf.strings.UsedOffsets.{Used, offset_number}
 use Rattle.bpf_canon.specs.btf.strings.{SectionTexts.texts_in, Ranks.AreRanked, Longest.IsInText, Longest.AreLongestOf}
 use Rattle.bpf_canon.specs.declared.btf.strings.ranked_texts.SectionText.{SectionText}
-use Rattle.bpf_canon.specs.declared.btf.strings.{shared_places.InHost.InHost, ranked_texts.RankedTexts.RankedTexts}
+use Rattle.bpf_canon.specs.declared.btf.strings.{shared_offsets.InHost.InHost, ranked_texts.RankedTexts.RankedTexts}
 
 -- The string of this rank is the host of x in every list with this sorted order, and it isn't a suffix of the next one.
 pub record IsInHost (sorted : List (List ℕ)) (x : List ℕ) (h : InHost) : Type 0 where
@@ -13,7 +13,7 @@ pub record IsInHost (sorted : List (List ℕ)) (x : List ℕ) (h : InHost) : Typ
   pub numbered : h.host ≡ rank
   pub inside : rank < length sorted
   pub last : rank + 1 < length sorted → is_suffix (at_rank sorted rank) (at_rank sorted (rank + 1)) ≡ false
-  pub host : (ks : List (List ℕ)) → AreInTailOrder ks sorted → host_in (hosts_of ks) x ≡ at_rank sorted rank
+  pub host : (ks : List (List ℕ)) → AreInSuffixOrder ks sorted → host_in (hosts_of ks) x ≡ at_rank sorted rank
   pub before : h.before + length x ≡ length (at_rank sorted rank)
   pub long : h.len ≡ length (at_rank sorted rank)
 

@@ -1,6 +1,6 @@
 -- Numbers of sorted strings: the common suffixes of adjacent ones, and the ranks that follow from them.
 use Rattle.std.specs.Prelude.{◌≡◌, ℕ, zero, suc, ◌<◌, ◌≤◌, List, length, slice_index}
-use Rattle.btf_types.specs.strings.{CommonTails.common_tail, CommonTails.at_rank, CommonTails.IsNextHost, SharedNames.tail_cmp}
+use Rattle.btf_types.specs.strings.{CommonSuffixes.common_tail, CommonSuffixes.at_rank, CommonSuffixes.IsNextHost, SharedNames.suffix_cmp}
 use Rattle.std.specs.List.Sorted.{IsSorted}
 
 -- the length of the common suffix of the string of a rank and the one before it
@@ -31,6 +31,6 @@ pub record AreLower (common lower : List ℕ) : Type 0 where
 
 -- strings sorted by their reversed bytes, with these numbers of each
 pub record AreRanked (sorted : List (List ℕ)) (common host_ranks : List ℕ) : Type 0 where
-  pub in_order : IsSorted tail_cmp sorted
+  pub in_order : IsSorted suffix_cmp sorted
   pub are_common : AreCommon sorted common
   pub are_hosts : AreNextHosts sorted host_ranks

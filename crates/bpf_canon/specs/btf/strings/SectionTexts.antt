@@ -1,7 +1,7 @@
 -- Strings of a section with keys, and their order.
 use Rattle.std.specs.Prelude.{◌≡◌, ℕ, ◌-◌, min, List, length, map, take, drop}
 use Rattle.std.specs.{Ordering.nat_cmp, Ordering.on, Ordering.then_cmp, declared.cmp.Ordering.Ordering}
-use Rattle.btf_types.specs.strings.{SharedNames.tail_cmp, CommonTails.common_tail}
+use Rattle.btf_types.specs.strings.{SharedNames.suffix_cmp, CommonSuffixes.common_tail}
 use Rattle.bpf_canon.specs.{btf.strings.SuffixKeys.suffix_key, declared.btf.strings.ranked_texts.SectionText.SectionText}
 
 -- the bytes from the start to the end of a string, as far as the section reaches
@@ -31,4 +31,4 @@ pub record HasKey (section : List ℕ) (t : SectionText) : Type 0 where
   pub before : t.before ≡ suffix_key (text_before (text_in section t))
 
 abbrev pub compared : List ℕ → SectionText → SectionText → Ordering
-compared section = then_cmp (on (λ t. t.key) nat_cmp) (then_cmp (on (λ t. t.before) nat_cmp) (on (text_in section) tail_cmp))
+compared section = then_cmp (on (λ t. t.key) nat_cmp) (then_cmp (on (λ t. t.before) nat_cmp) (on (text_in section) suffix_cmp))

@@ -11,8 +11,8 @@ head_vlen head count = elim head [ KFunc name linkage target ↦ linkage_number 
 
 -- a record up to its items
 abbrev pub head_words : (List ℕ → ℕ) → TypeHead → ℕ → Bool → List ℕ
-head_words place head count bit_fields =
-    place (head_name head) ∷ info (kind_number head) (head_vlen head count) (canonical_flag head bit_fields) ∷ head_third head ∷ head_tail head
+head_words new_offset head count bit_fields =
+    new_offset (head_name head) ∷ info (kind_number head) (head_vlen head count) (canonical_flag head bit_fields) ∷ head_third head ∷ head_tail head
 
 -- a width and a bit offset fit in 32 bits
 abbrev pub MemberFits : TypeItem → Type 0

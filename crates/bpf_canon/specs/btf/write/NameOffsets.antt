@@ -3,7 +3,7 @@ use Rattle.std.specs.Prelude.{ℕ, ◌+◌, ◌*◌, ◌<◌, List, [], ◌∷�
 use Rattle.std.specs.List.{All, Contains, flat_map}
 use Rattle.btf_raw.specs.{Kinds.item_words, Kinds.has_item_names, Frames.name_word, Frames.kind, Frames.vlen}
 use Rattle.btf_types.specs.Reading.{tabulate}
-use Rattle.bpf_canon.specs.btf.strings.NamesByPlace.{NamesByPlace}
+use Rattle.bpf_canon.specs.btf.strings.NamesByOffset.{NamesByOffset}
 
 -- the first 32-bit word of item k
 abbrev pub item_word : List ℕ → ℕ → ℕ
@@ -18,7 +18,7 @@ abbrev pub all_offsets : List (List ℕ) → List ℕ
 all_offsets frames = flat_map name_offsets frames
 
 -- the offsets of a record's names are among the noted offsets
-abbrev pub HasNotedNames : NamesByPlace → List ℕ → Type 0
+abbrev pub HasNotedNames : NamesByOffset → List ℕ → Type 0
 HasNotedNames names frame = All (Contains names.offsets) (name_offsets frame)
 
 -- an offset is inside a section of this length

@@ -3,7 +3,7 @@
 //!
 //! Strings that end with the same bytes have consecutive ranks. So which strings end with a name,
 //! and which is its host, follows from the lengths of the suffixes that adjacent strings have in
-//! common (law `common_tails_tell_hosts`), and no others are compared.
+//! common (law `common_suffixes_tell_hosts`), and no others are compared.
 //!
 //! A string is kept with its last 16 bytes as two numbers, its keys. They usually decide a
 //! comparison, and then the section isn't read, in which strings with adjacent ranks may be far
@@ -16,7 +16,7 @@ ghost use Rattle.std.specs.{Prelude.slice_index, Ordering.on, List.All};
 ghost use Rattle.std.specs.List.Sorted.{IsPermutation, IsSorted};
 ghost use Rattle.bpf_canon.specs.btf.strings.SuffixKeys.{HaveSameByte};
 ghost use Rattle.btf_raw.specs.Header.{HasNulEnds};
-ghost use Rattle.btf_types.specs.strings.{SharedNames.tail_cmp, CommonTails.common_tail};
+ghost use Rattle.btf_types.specs.strings.{SharedNames.suffix_cmp, CommonSuffixes.common_tail};
 ghost use Rattle.bpf_canon.specs.btf.strings.Ranks.{AreRanked, AreCommon, AreNextHosts, AreLower};
 ghost use Rattle.bpf_canon.specs.btf.strings.{Longest.AreLongestOf, SectionTexts.HasKey};
 ghost use Rattle.bpf_canon.specs.btf.strings.SectionTexts.{texts_in, text_in, common_in, compared};
@@ -70,7 +70,7 @@ pub(crate) fn text_of<'a>(section: &'a [u8], text: &SectionText) -> &'a [u8]
 /// Compares the bytes. This is a separate function, so that the comparison of keys is inlined.
 #[inline(never)]
 fn compare_texts(section: &[u8], a: &SectionText, b: &SectionText) -> Ordering
-    ensures { result ≡ on (text_in section.now) tail_cmp a.now b.now }
+    ensures { result ≡ on (text_in section.now) suffix_cmp a.now b.now }
 {
     compare_from_end(text_of(section, a), text_of(section, b))
 }

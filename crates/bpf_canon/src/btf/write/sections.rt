@@ -9,18 +9,18 @@
 ghost use Rattle.std.specs.Prelude.{◌≡◌, ◌+◌, ◌^◌, ◌<◌, ◌++◌, [], ℕ, List, IfOk, OnOk, length};
 ghost use Rattle.std.specs.{Prelude.drop, Prelude.map, List.All, List.Contains};
 ghost use Rattle.btf_raw.specs.Frames.{IsFrame, bytes_of, section_of};
-ghost use Rattle.btf_types.specs.{Reading.record_of, tables.PlaceWords.ReadsRecord};
+ghost use Rattle.btf_types.specs.{Reading.record_of, tables.OffsetWords.ReadsRecord};
 ghost use Rattle.btf_types.specs.{Sections.records_in, Denotes.Denotes};
 ghost use Rattle.bpf_canon.specs.btf.CanonicalBtf.{record_words, canonical};
-ghost use Rattle.bpf_canon.specs.btf.strings.{FirstUses.noted_all, NamesByPlace.placed_texts};
-ghost use Rattle.bpf_canon.specs.btf.strings.DistinctNames.{distinct_place};
+ghost use Rattle.bpf_canon.specs.btf.strings.{FirstUses.noted_all, NamesByOffset.placed_texts};
+ghost use Rattle.bpf_canon.specs.btf.strings.DistinctNames.{distinct_offset};
 ghost use Rattle.bpf_canon.specs.btf.write.NameOffsets.{IsBelow, HasNotedNames, name_offsets};
 ghost use Rattle.bpf_canon.specs.btf.write.NameOffsets.{all_offsets};
 ghost use Rattle.bpf_canon.specs.btf.write.BtfWords.{record_info};
 
-use crate::btf::strings::distinct_places::DistinctPlaces;
-use crate::btf::strings::name_places::NamePlaces;
-use crate::btf::strings::shared_places::SharedPlaces;
+use crate::btf::strings::distinct_offsets::DistinctOffsets;
+use crate::btf::strings::new_name_offsets::NewOffsets;
+use crate::btf::strings::shared_offsets::SharedOffsets;
 use crate::btf::strings::used_offsets::FirstUses;
 use crate::btf::write::head_words::push_header;
 use bpf_words::{Order, push_words, push32};
@@ -120,7 +120,7 @@ fn push_rest<A: Allocator>(
 }
 
 /// Appends a record.
-fn push_record<A: Allocator, N: NamePlaces>(
+fn push_record<A: Allocator, N: NewOffsets>(
     out: &mut Vec<u8, A>,
     to: Order,
     names: &N,
@@ -129,10 +129,10 @@ fn push_record<A: Allocator, N: NamePlaces>(
     requires reads { ReadsRecord (N.names names.now).strings this.now }
     requires noted { HasNotedNames (N.names names.now) this.now }
     ensures { OnOk result (out.new.items ≡ out.old.items ++ bytes_of to
-        (record_words (N.place_of names.now) (record_of (N.names names.now).strings this.now))) }
+        (record_words (N.offset_of names.now) (record_of (N.names names.now).strings this.now))) }
 {
     let info = canonical_info(this);
-    let name = names.place(this.word(0));
+    let name = names.new_offset(this.word(0));
     push_words(out, to, &[name, info, this.word(2)])?;
     let kind = this.kind();
     let vlen = this.vlen();
@@ -143,7 +143,7 @@ fn push_record<A: Allocator, N: NamePlaces>(
     let size = item.words;
     for k in 0..usize::from(vlen) {
         let at = 3 + size * k;
-        let name = names.place(this.word(at));
+        let name = names.new_offset(this.word(at));
         let second = this.word(at + 1);
         if size == 2 {
             push_words(out, to, &[name, second])?;
@@ -155,7 +155,7 @@ fn push_record<A: Allocator, N: NamePlaces>(
 }
 
 /// Appends all records.
-fn push_records<A: Allocator, N: NamePlaces>(
+fn push_records<A: Allocator, N: NewOffsets>(
     out: &mut Vec<u8, A>,
     to: Order,
     names: &N,
@@ -164,7 +164,7 @@ fn push_records<A: Allocator, N: NamePlaces>(
     requires strings { (N.names names.now).strings ≡ sections.now.strings }
     requires noted { All (Contains (N.names names.now).offsets) (all_offsets sections.now.frames) }
     ensures { OnOk result (out.new.items ≡ out.old.items
-        ++ section_of to (map (record_words (N.place_of names.now)) (records_in sections.now))) }
+        ++ section_of to (map (record_words (N.offset_of names.now)) (records_in sections.now))) }
 {
     for index in 0..sections.count() {
         let this = sections.record(index + 1);
@@ -183,13 +183,13 @@ fn push_records<A: Allocator, N: NamePlaces>(
 pub fn push_types<A: Allocator, B: Allocator>(
     out: &mut Vec<u8, A>,
     to: Order,
-    names: &DistinctPlaces<'_, B>,
+    names: &DistinctOffsets<'_, B>,
     sections: &FileSections<'_>,
 ) -> Result<(), AllocError>
     requires strings { names.now.strings ≡ sections.now.strings }
     requires noted { All (Contains names.now.offsets) (all_offsets sections.now.frames) }
     ensures { OnOk result (out.new.items ≡ out.old.items ++ section_of to
-        (map (record_words (distinct_place (placed_texts names.now))) (records_in sections.now))) }
+        (map (record_words (distinct_offset (placed_texts names.now))) (records_in sections.now))) }
 {
     push_records(out, to, names, sections)
 }
@@ -206,7 +206,7 @@ pub(crate) fn write_sections<A: Allocator + Copy>(
 {
     let types_len = sections.types().len();
     let uses = noted_names(alloc, sections)?;
-    let names = SharedPlaces::find(alloc, uses)?;
+    let names = SharedOffsets::find(alloc, uses)?;
     let table_len = names.table_len();
     let mut bytes = Vec::with_capacity(alloc, 24 + types_len + table_len as usize)?;
     push_header(&mut bytes, to, types_len as u32, table_len)?;

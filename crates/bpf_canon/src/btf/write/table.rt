@@ -68,7 +68,7 @@ fn push_head<A: Allocator, B: Allocator + Copy>(
     push_words(
         out,
         order,
-        &[names.place(head.name()), info, head_third(head)],
+        &[names.new_offset(head.name()), info, head_third(head)],
     )?;
     push_further_words(out, order, head)
 }
@@ -90,15 +90,15 @@ fn push_item<A: Allocator, B: Allocator + Copy>(
     match item {
         Item::Member { name, target, bit_offset, width } => {
             let offset = bit_offset + (u32::from(width) << 24);
-            push_words(out, order, &[names.place(name), target, offset])
+            push_words(out, order, &[names.new_offset(name), target, offset])
         }
-        Item::EnumValue { name, value } => push_words(out, order, &[names.place(name), value]),
+        Item::EnumValue { name, value } => push_words(out, order, &[names.new_offset(name), value]),
         Item::Value64 { name, value } => {
             let low = (value & 0xffff_ffff) as u32;
             let high = (value >> 32) as u32;
-            push_words(out, order, &[names.place(name), low, high])
+            push_words(out, order, &[names.new_offset(name), low, high])
         }
-        Item::Param { name, target } => push_words(out, order, &[names.place(name), target]),
+        Item::Param { name, target } => push_words(out, order, &[names.new_offset(name), target]),
         Item::Entry { target, offset, size } => push_words(out, order, &[target, offset, size]),
     }
 }

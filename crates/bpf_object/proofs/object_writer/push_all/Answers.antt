@@ -1,7 +1,7 @@
 use Rattle.std.proofs.Common.{◌≡◌, ◌++◌, ℕ, map, subst}
 use Rattle.std.specs.Prelude.{codes}
 use Rattle.bpf_elf.specs.Numbers.{count}
-use Rattle.bpf_canon.specs.btf.strings.{NamesByPlace.placed_texts, DistinctNames.distinct_table}
+use Rattle.bpf_canon.specs.btf.strings.{NamesByOffset.placed_texts, DistinctNames.distinct_table}
 use Rattle.bpf_object.specs.{FileWith.section_with, NotedStrings.placed, ObjectParts.last_sections, SectionRows.written_kept, Written.content_of}
 use Rattle.bpf_object.specs.WrittenSections.{section_value}
 use Rattle.bpf_object.proofs.FileStringLemmas.{types_noted, extension_noted}

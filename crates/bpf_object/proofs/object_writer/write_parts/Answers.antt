@@ -1,5 +1,5 @@
 use Rattle.std.proofs.Common.{◌++◌, List, ap, map, ◌∙◌}
-use Rattle.bpf_canon.specs.btf.strings.{NamesByPlace.placed_texts, DistinctNames.distinct_table}
+use Rattle.bpf_canon.specs.btf.strings.{NamesByOffset.placed_texts, DistinctNames.distinct_table}
 use Rattle.bpf_object.specs.declared.file.WrittenSection.{WrittenSection}
 use Rattle.bpf_object.specs.{NotedStrings.placed, ObjectParts.all_sections, Written.content_of}
 use Rattle.bpf_object.specs.WrittenSections.{section_value}

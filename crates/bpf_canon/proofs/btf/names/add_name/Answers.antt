@@ -1,6 +1,6 @@
 use Rattle.std.proofs.Common.{sym}
 use Rattle.bpf_canon.specs.btf.names.Interned.{borrowed_texts}
-use Rattle.bpf_canon.proofs.BtfLemmas.Names.{HostSteps.set_adds, PlaceSteps.empty_adds}
+use Rattle.bpf_canon.proofs.BtfLemmas.Names.{HostSteps.set_adds, OffsetSteps.empty_adds}
 use Rattle.bpf_canon.proofs.btf.names.add_name.Goals as goal
 
 pub returns-in_ok-insert : goal.returns-in_ok-insert

@@ -1,12 +1,12 @@
 use Rattle.std.proofs.Common.{rules, ◌≡◌, ℕ, ◌-◌, ◌<◌, inl, inr, ◌⊎◌, length, get_or, arith, ap, ◌∙◌, sym, List}
 use Rattle.std.specs.Ordering.{nat_cmp}
-use Rattle.btf_types.specs.strings.SharedNames.{tail_cmp}
+use Rattle.btf_types.specs.strings.SharedNames.{suffix_cmp}
 use Rattle.bpf_canon.specs.btf.strings.SuffixKeys.{suffix_key}
 use Rattle.bpf_canon.proofs.BtfLemmas.Strings.SuffixKeys.{key_apart, key_alike, key_ends}
 use Rattle.bpf_canon.proofs.btf.suffixes.compare_from_end.Goals as goal
 use Rattle.bpf_canon.proofs.btf.suffixes.compare_from_end.Goals.{then-ends-test+else-second-ge8, else-ends-test}
 
-apart : (x y : List ℕ) (k m : ℕ) → ((i : ℕ) → get_or x i 0 < 256) → ((i : ℕ) → get_or y i 0 < 256) → k ≡ suffix_key x → m ≡ suffix_key y → (k ≡ m → ⊥) → nat_cmp k m ≡ tail_cmp x y
+apart : (x y : List ℕ) (k m : ℕ) → ((i : ℕ) → get_or x i 0 < 256) → ((i : ℕ) → get_or y i 0 < 256) → k ≡ suffix_key x → m ≡ suffix_key y → (k ≡ m → ⊥) → nat_cmp k m ≡ suffix_cmp x y
 apart x y k m p q e f n =
     ap (λ (t : ℕ). nat_cmp t m) e ∙ ap (nat_cmp (suffix_key x)) f ∙ key_apart x y p q (λ s. n (e ∙ s ∙ sym f))
 

@@ -1,6 +1,6 @@
 use Rattle.std.proofs.Common.{◌≡◌, ℕ, ◌<◌, ◌≤◌, ◌+◌, ◌-◌, [], length, map, get_or, arith, ◌∙◌, sym, ap, subst, List}
 use Rattle.std.proofs.lemmas.List.{get_or-map, length-map, length-set}
-use Rattle.btf_types.specs.strings.CommonTails.{at_rank, IsNextHost}
+use Rattle.btf_types.specs.strings.CommonSuffixes.{at_rank, IsNextHost}
 use Rattle.bpf_canon.specs.btf.strings.{Ranks.common_before, SectionTexts.text_in, InHost.no_text}
 use Rattle.bpf_canon.proofs.BtfLemmas.Strings.RankSteps.{next_own, next_taken, hosts_step}
 use Rattle.bpf_canon.proofs.btf.strings.ranked_texts.next_hosts.Goals as goal

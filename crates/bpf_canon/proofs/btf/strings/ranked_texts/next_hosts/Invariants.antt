@@ -1,6 +1,6 @@
 use Rattle.std.proofs.Common.{◌≡◌, ℕ, ◌<◌, ◌≤◌, length, map}
 use Rattle.std.specs.Prelude.{slice_index}
-use Rattle.btf_types.specs.strings.CommonTails.{IsNextHost}
+use Rattle.btf_types.specs.strings.CommonSuffixes.{IsNextHost}
 use Rattle.bpf_canon.specs.btf.strings.SectionTexts.{text_in}
 use Rattle.bpf_canon.proofs.btf.strings.ranked_texts.next_hosts.Given as goal
 

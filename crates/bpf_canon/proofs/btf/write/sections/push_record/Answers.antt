@@ -10,21 +10,21 @@ use Rattle.bpf_canon.proofs.btf.write.sections.push_record.Given.{Over}
 use Rattle.bpf_canon.proofs.btf.write.sections.push_record.Goals.{After-kind-kind, Else-not-item, then-size-eq2+in_ok-push_words-2, else-size-eq2+in_ok-push_words-3}
 use Rattle.bpf_canon.proofs.btf.write.sections.push_record.Goals as goal
 
-pub place-name-requires : goal.place-name-requires
-place-name-requires g c =
+pub new_offset-name-requires : goal.new_offset-name-requires
+new_offset-name-requires g c =
     let f = c.args.this.now in
-    subst (Contains (g.N.NamePlaces.names c.args.names.now).offsets) {x = name_word f} (sym c.word.ensures) (own_offset (Contains (g.N.NamePlaces.names c.args.names.now).offsets) f c.requires.noted)
+    subst (Contains (g.N.NewOffsets.names c.args.names.now).offsets) {x = name_word f} (sym c.word.ensures) (own_offset (Contains (g.N.NewOffsets.names c.args.names.now).offsets) f c.requires.noted)
 
 -- the first three words, before what follows them
 front : (g : Over) (c : After-kind-kind g)
-    → c.push_words.new.out.items ++ bytes_of c.args.to (record_tail (g.N.NamePlaces.place_of c.args.names.now) (record_of (g.N.NamePlaces.names c.args.names.now).strings c.args.this.now)) ≡ c.args.out.now.items ++ bytes_of c.args.to (record_words (g.N.NamePlaces.place_of c.args.names.now) (record_of (g.N.NamePlaces.names c.args.names.now).strings c.args.this.now))
+    → c.push_words.new.out.items ++ bytes_of c.args.to (record_tail (g.N.NewOffsets.offset_of c.args.names.now) (record_of (g.N.NewOffsets.names c.args.names.now).strings c.args.this.now)) ≡ c.args.out.now.items ++ bytes_of c.args.to (record_words (g.N.NewOffsets.offset_of c.args.names.now) (record_of (g.N.NewOffsets.names c.args.names.now).strings c.args.this.now))
 front g c =
-    let strings = (g.N.NamePlaces.names c.args.names.now).strings in
+    let strings = (g.N.NewOffsets.names c.args.names.now).strings in
     let f = c.args.this.now in
-    let place : List ℕ → ℕ = g.N.NamePlaces.place_of c.args.names.now in
-    let at : c.place-name.result ≡ place (text_from strings (name_word f)) = c.place-name.ensures ∙ ap (λ (w : ℕ). place (text_from strings w)) c.word.ensures in
+    let place : List ℕ → ℕ = g.N.NewOffsets.offset_of c.args.names.now in
+    let at : c.new_offset-name.result ≡ place (text_from strings (name_word f)) = c.new_offset-name.ensures ∙ ap (λ (w : ℕ). place (text_from strings w)) c.word.ensures in
     ap (λ (t : List ℕ). t ++ bytes_of c.args.to (record_tail place (record_of strings f))) c.in_ok-push_words.ensures.ok
-    ∙ record_pushed c.args.to c.args.out.now.items place strings f c.place-name.result c.canonical_info-info.result c.word-2.result
+    ∙ record_pushed c.args.to c.args.out.now.items place strings f c.new_offset-name.result c.canonical_info-info.result c.word-2.result
     c.requires.reads.ends c.requires.reads.encoded at (c.canonical_info-info.ensures strings c.requires.reads) c.word-2.ensures
 
 named_is : (b : Bool) → not b ≡ false → b ≡ true
@@ -51,9 +51,9 @@ room g c k low =
 
 pub returns-then-not-item : goal.returns-then-not-item
 returns-then-not-item g c =
-    let strings = (g.N.NamePlaces.names c.args.names.now).strings in
+    let strings = (g.N.NewOffsets.names c.args.names.now).strings in
     let f = c.args.this.now in
-    let place = g.N.NamePlaces.place_of c.args.names.now in
+    let place = g.N.NewOffsets.offset_of c.args.names.now in
     let none : has_item_names (kind f) ≡ false = named_by_row c.args.this.now c.kind-kind.result c.layout_of.result c.layout_of.ensures.row c.kind-kind.ensures ∙ nameless_is _ c.if-not-item.true in
     on_ok_weaker c.push_rest.result
     (λ e. e ∙ ap (λ (t : List ℕ). c.push_words.new.out.items ++ bytes_of c.args.to t) (rest_words place strings f c.requires.reads.frame c.requires.reads.encoded none)
@@ -71,10 +71,10 @@ word-requires-in-loop-k g c =
     let r = room g (goal.at.word-requires-in-loop-k g c).Else-not-item c.loop-k.k (omega arith) in
     omega (arith, r.0, r.1.0)
 
-pub place-name-requires-in-loop-k : goal.place-name-requires-in-loop-k
-place-name-requires-in-loop-k g c =
-    let items = named g (goal.at.place-name-requires-in-loop-k g c).Else-not-item in
-    item_is (Contains (g.N.NamePlaces.names c.args.names.now).offsets) c.args.this.now c.layout_of.result.item.words c.vlen-vlen.result c.loop-k.k c.word-in-loop-k.result c.requires.noted items (omega arith) c.word-in-loop-k.ensures
+pub new_offset-name-requires-in-loop-k : goal.new_offset-name-requires-in-loop-k
+new_offset-name-requires-in-loop-k g c =
+    let items = named g (goal.at.new_offset-name-requires-in-loop-k g c).Else-not-item in
+    item_is (Contains (g.N.NewOffsets.names c.args.names.now).offsets) c.args.this.now c.layout_of.result.item.words c.vlen-vlen.result c.loop-k.k c.word-in-loop-k.result c.requires.noted items (omega arith) c.word-in-loop-k.ensures
 
 pub overflow_add-at-in-loop-k : goal.overflow_add-at-in-loop-k
 overflow_add-at-in-loop-k g c = omega (arith, (room g (goal.at.overflow_add-at-in-loop-k g c).Else-not-item c.loop-k.k (omega arith)).1.1)
@@ -95,12 +95,12 @@ word-requires-else-size-eq2 g c =
 pub loop-k-preserved : goal.loop-k-preserved
 loop-k-preserved g c =
     let items = named g (goal.at.loop-k-preserved g c).Else-not-item in
-    let strings = (g.N.NamePlaces.names c.args.names.now).strings in
+    let strings = (g.N.NewOffsets.names c.args.names.now).strings in
     let f = c.args.this.now in
     let size = c.layout_of.result.item.words in
     let from = 3 + size * c.loop-k.k in
-    let place = g.N.NamePlaces.place_of c.args.names.now in
-    let name = c.place-name-in-loop-k.result in
+    let place = g.N.NewOffsets.offset_of c.args.names.now in
+    let name = c.new_offset-name-in-loop-k.result in
     let b : ℕ = slice_index f (from + 1) in
     let d : ℕ = slice_index f (from + 2) in
     let second : from + 1 ≡ 4 + size * c.loop-k.k = omega arith in
@@ -118,13 +118,13 @@ loop-k-preserved g c =
     pushed
     ∙ ap (λ t. t ++ bytes_of c.args.to (take size (name ∷ b ∷ d ∷ []))) c.loop-k.invariant
     ∙ named_item_more c.args.to c.push_words.new.out.items place strings f size c.vlen-vlen.result c.loop-k.k c.word-in-loop-k.result name b d
-    c.requires.reads.frame items c.word-in-loop-k.ensures c.place-name-in-loop-k.ensures (ap (slice_index f) second) (ap (slice_index f) third)
+    c.requires.reads.frame items c.word-in-loop-k.ensures c.new_offset-name-in-loop-k.ensures (ap (slice_index f) second) (ap (slice_index f) third)
 
 pub returns : goal.returns
 returns g c =
-    let strings = (g.N.NamePlaces.names c.args.names.now).strings in
+    let strings = (g.N.NewOffsets.names c.args.names.now).strings in
     let f = c.args.this.now in
-    let place = g.N.NamePlaces.place_of c.args.names.now in
+    let place = g.N.NewOffsets.offset_of c.args.names.now in
     let items = named g (goal.at.returns g c).Else-not-item in
     let all : c.loop-k.k ≡ item_total f = omega (arith, items.all, named_total f c.requires.reads.frame items.named) in
     c.loop-k.invariant ∙ ap (λ (n : ℕ). c.push_words.new.out.items ++ bytes_of c.args.to (items_to place strings f n)) all

@@ -8,11 +8,11 @@ use Rattle.bpf_canon.proofs.btf.write.sections.push_records.Goals as goal
 
 pub push_record-requires-clause-noted : goal.push_record-requires-clause-noted
 push_record-requires-clause-noted g c =
-    record_offsets (Contains (g.N.NamePlaces.names c.args.names.now).offsets) c.args.sections.now.frames _ c.record-this.result c.record-this.ensures.frame c.requires.noted
+    record_offsets (Contains (g.N.NewOffsets.names c.args.names.now).offsets) c.args.sections.now.frames _ c.record-this.result c.record-this.ensures.frame c.requires.noted
 
 pub loop-index-preserved : goal.loop-index-preserved
 loop-index-preserved g c =
-    let place : List ℕ → ℕ = g.N.NamePlaces.place_of c.args.names.now in
+    let place : List ℕ → ℕ = g.N.NewOffsets.offset_of c.args.names.now in
     let s = c.args.sections.now in
     let out = c.args.out.now.items in
     let words : List ℕ → List ℕ = λ strings. bytes_of c.args.to (record_words place (record_of strings c.record-this.result)) in

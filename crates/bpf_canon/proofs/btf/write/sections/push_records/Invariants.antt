@@ -8,4 +8,4 @@ use Rattle.bpf_canon.proofs.btf.write.sections.push_records.Given as goal
 abbrev pub invariant-loop-index : goal.invariant-loop-index
 invariant-loop-index g l =
     l.out.items ≡ l.initial.out.items
-    ++ section_of l.to (map (record_words (g.N.NamePlaces.place_of l.names)) (map (record_of l.sections.strings) (take l.index l.sections.frames)))
+    ++ section_of l.to (map (record_words (g.N.NewOffsets.offset_of l.names)) (map (record_of l.sections.strings) (take l.index l.sections.frames)))

@@ -2,7 +2,7 @@ use Rattle.std.proofs.Common.{◌≡◌, ◌++◌, ℕ, List, length, map, sym, 
 use Rattle.std.specs.List.{All, Contains}
 use Rattle.btf_raw.specs.Header.{header}
 use Rattle.btf_types.specs.{Names.kept, Names.names, Reading.text_from, Sections.records_in}
-use Rattle.bpf_canon.specs.btf.{CanonicalBtf.canonical, strings.NamesByPlace.placed_texts, write.NameOffsets.all_offsets}
+use Rattle.bpf_canon.specs.btf.{CanonicalBtf.canonical, strings.NamesByOffset.placed_texts, write.NameOffsets.all_offsets}
 use Rattle.bpf_canon.proofs.BtfLemmas.BtfFiles.{canonical_is_file}
 use Rattle.bpf_canon.proofs.BtfLemmas.Write.SectionFiles.{each_noted, kept_uses, sections_written}
 use Rattle.bpf_canon.proofs.btf.write.sections.write_sections.Given.{Over}

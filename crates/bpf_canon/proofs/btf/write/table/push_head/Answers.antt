@@ -16,10 +16,10 @@ returns g c =
     let h = head_value c.args.head in
     let o = c.args.order in
     let old = c.args.out.now.items in
-    let name : c.place.result ≡ shared_among c.args.names.now (head_name h) = grind arith in
+    let name : c.new_offset.result ≡ shared_among c.args.names.now (head_name h) = grind arith in
     let word = info (kind_number h) (head_vlen h c.args.count) (canonical_flag h c.args.bit_fields) in
     let sum : c.head_vlen.result + (c.from.result * 2 ^ 24) % 2 ^ 32 + (c.kind_flag.result * 2 ^ 31) % 2 ^ 32 ≡ word = omega (arith, c.from.ensures, c.kind.ensures, c.head_vlen.ensures.is, c.kind_flag.ensures.is, c.kind_flag.ensures.bit) in
-    let words = words_are c.place.result _ c.head_third.result (shared_among c.args.names.now (head_name h)) word (head_third h) name sum c.head_third.ensures in
+    let words = words_are c.new_offset.result _ c.head_third.result (shared_among c.args.names.now (head_name h)) word (head_third h) name sum c.head_third.ensures in
     on_ok_weaker c.push_further_words.result
     (λ e. e ∙ ap (λ (t : List ℕ). t ++ bytes_of o (head_tail h)) (c.in_ok-push_words.ensures.ok ∙ ap (λ (ws : List ℕ). old ++ bytes_of o ws) words)
     ∙ pushed_two o old (shared_among c.args.names.now (head_name h) ∷ word ∷ head_third h ∷ []) (head_tail h))

@@ -1,5 +1,5 @@
 use Rattle.std.proofs.Common.{ℕ, List, subst, sym}
-use Rattle.btf_types.specs.tables.PlaceWords.{ReadsRecord}
+use Rattle.btf_types.specs.tables.OffsetWords.{ReadsRecord}
 use Rattle.btf_types.proofs.TableLemmas.TableReads.{record_read}
 use Rattle.btf_types.proofs.tables.file_sections.FileSections.record.Goals as goal
 

@@ -1,6 +1,6 @@
 use Rattle.std.proofs.Common.{◌≡◌, ◌<◌, ℕ, List, length, arith, rules, get_or, ap, subst, sym}
 use Rattle.std.specs.{List.All, List.Sorted.IsSorted, Ordering.is_lt}
-use Rattle.btf_types.specs.strings.SharedNames.{tail_cmp}
+use Rattle.btf_types.specs.strings.SharedNames.{suffix_cmp}
 use Rattle.std.proofs.lemmas.{Fn.always_returns_same, List.Sorted.ranks_by, List.Sorted.length_permutation, List.Sorted.All-permutation}
 use Rattle.bpf_canon.specs.{btf.strings.SectionTexts.HasKey, btf.strings.SectionTexts.compared, btf.strings.SectionTexts.texts_in, declared.btf.strings.ranked_texts.SectionText.SectionText}
 use Rattle.bpf_canon.proofs.BtfLemmas.Strings.SortedTexts.{compared_total, sorted_texts}
@@ -26,6 +26,6 @@ returns-clause-ranked g c =
     let up = c.sort_unstable_by.ensures.sorted (λ x y. is_lt (compared section x y)) (ranks_by (compared_total section) (λ t. t))
     (always_returns_same _ (λ a r. is_lt r ≡ is_lt (compared section a.0.now a.1.0.now)) _ (λ a r g call. let e : r ≡ compared section a.0.now a.1.0.now = search rules in (ap is_lt e, search rules))) in
     let bytes : (i : ℕ) → get_or section i 0 < 256 = search rules in
-    let sorted : IsSorted tail_cmp (texts_in section items) =
+    let sorted : IsSorted suffix_cmp (texts_in section items) =
     sorted_texts section items bytes (All-permutation (HasKey section) c.args.texts.items items c.sort_unstable_by.ensures.permutation c.requires.keys) up in
     search rules

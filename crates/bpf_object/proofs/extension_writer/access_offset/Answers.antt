@@ -1,0 +1,17 @@
+use Rattle.std.proofs.Common.{◌≡◌, ℕ, sym, subst}
+use Rattle.std.specs.List.{Contains}
+use Rattle.bpf_elf.specs.Names.{string_at}
+use Rattle.bpf_object.specs.NotedStrings.{placed}
+use Rattle.bpf_object.proofs.WrittenStrings.{access_noted, placed_at}
+use Rattle.bpf_object.proofs.extension_writer.access_offset.Goals as goal
+
+pub new_offset-requires : goal.new_offset-requires
+new_offset-requires g c =
+    let noted = access_noted c.args.names.now c.args.x c.args.group c.args.k c.requires.names c.requires.there in
+    subst (Contains c.args.names.now.offsets) (sym c.access_off.ensures.value) noted
+
+pub returns : goal.returns
+returns g c =
+    let strings = c.args.x.strings.now in
+    let here = placed_at c.args.names.now strings c.access_off.result c.new_offset.result c.requires.names.strings c.new_offset.ensures in
+    subst (λ (o : ℕ). c.new_offset.result ≡ placed c.args.names.now (string_at strings o)) c.access_off.ensures.value here

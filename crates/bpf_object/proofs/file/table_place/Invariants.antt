@@ -1,7 +1,0 @@
-use Rattle.std.proofs.Common.{◌≡◌}
-use Rattle.bpf_object.specs.File.{content_place}
-use Rattle.bpf_object.specs.WrittenSections.{section_at}
-use Rattle.bpf_object.proofs.file.table_place.Given as goal
-
-abbrev pub invariant-loop-k : goal.invariant-loop-k
-invariant-loop-k l = l.place ≡ content_place (section_at l.sections) l.k
