@@ -16,7 +16,6 @@ mod largest;
 mod limit;
 mod long_names;
 mod memory;
-mod memory_btf;
 mod nested_names;
 mod own_table;
 mod plain_table;

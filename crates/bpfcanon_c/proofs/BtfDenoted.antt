@@ -1,23 +1,28 @@
 -- The BTF of records that say valid types denotes these types.
-use Rattle.std.proofs.Common.{◌≡◌, ◌+◌, ◌*◌, ◌++◌, ◌∙◌, ℕ, List, [], ◌∷◌, length, map, refl, sym, ap, inl, lit≤, arith}
+use Rattle.std.proofs.Common.{◌≡◌, ◌≤◌, ◌+◌, ◌-◌, ◌*◌, ◌++◌, ◌∙◌, ℕ, List, [], ◌∷◌, length, map, drop, refl, sym, ap, inl, lit≤, arith}
 use Rattle.std.specs.List.{All, AllZip, sum_by}
-use Rattle.std.proofs.lemmas.List.Elements.{All-head, All-tail}
+use Rattle.std.proofs.lemmas.List.Elements.{All-head, All-tail, All-weaker}
 use Rattle.std.proofs.lemmas.List.Sums.{sum_by-cons}
-use Rattle.bpf_words.specs.declared.Order.TheVariants.{Little}
+use Rattle.bpf_words.specs.declared.Order.{Order, TheVariants.Little}
+use Rattle.btf_types.proofs.StringLemmas.EncodedNames.{encoded_table_fits}
+use Rattle.std.proofs.lemmas.List.{length-take, length-drop}
 use Rattle.btf_raw.specs.{Header.header, Frames.bytes_of, Frames.section_of}
 use Rattle.btf_raw.specs.Kinds.{tail_words}
 use Rattle.btf_types.specs.Values.{TypeRecord}
 use Rattle.btf_types.specs.{Denotes.Denotes, Encoding.Encodes, Encoding.kind_number, checks.Numbers.TypeFacts}
-use Rattle.btf_types.specs.Valid.{IsValidRecord, facts, record_size}
+use Rattle.btf_types.specs.Valid.{IsValid, IsValidRecord, facts, record_size}
 use Rattle.btf_types.proofs.{TableLemmas.TableSteps.concat-map, TableLemmas.TableSteps.encoded_bytes}
-use Rattle.bpf_canon.proofs.BtfLemmas.CanonicalFiles.{types_size}
+use Rattle.bpf_canon.specs.btf.CanonicalBtf.{canonical}
+use Rattle.bpf_canon.proofs.BtfLemmas.CanonicalFiles.{types_size, length-canonical, canonical_size}
 use Rattle.bpfcanon_c.specs.declared.btf_rows.{TypeRow.TypeRow, ItemRow.ItemRow}
 use Rattle.bpfcanon_c.specs.declared.btf_plain.Plan.{Plan}
-use Rattle.bpfcanon_c.specs.BtfSaying.{TellsType, TellTypes}
+use Rattle.bpfcanon_c.specs.BtfSaying.{AreNear, TellsType, TellTypes}
+use Rattle.bpfcanon_c.specs.BtfEncoding.{IsEncodedBtf}
 use Rattle.bpfcanon_c.specs.BtfPlain as plain
 use Rattle.bpfcanon_c.specs.BtfPlain.{IsPlan, HoldsNames, names_section, row_size, row_words}
 use Rattle.bpfcanon_c.proofs.BtfNames.{section_ends, section_long}
 use Rattle.bpfcanon_c.proofs.BtfRecordWords.{kind_is}
+use Rattle.bpfcanon_c.proofs.BtfPlans.{names_near}
 use Rattle.bpfcanon_c.proofs.BtfTold.{type_encodes}
 
 -- ---- sizes
@@ -80,3 +85,28 @@ told_denotes types items strings p v plan told =
       whole = sym (concat-map Little fs);
       valid = told.valid;
     }
+
+-- the canonical bytes are no longer than the records and the strings
+pub told_fits : (to : Order) (types : List TypeRow) (items : List ItemRow) (strings : List ℕ) (p : Plan) (v : List TypeRecord) → IsPlan strings types items p → TellTypes types items strings v
+    → length (canonical to v) ≤ 25 + sum_by row_size types + length strings
+told_fits to types items strings p v plan told =
+    let section = names_section strings p.names in
+    let fs = plain.frames p.names.start types items in
+    let encodes = types_encode strings items p (facts v) types v plan.part told.each plan.holds told.valid.each in
+    let table = encoded_table_fits Little section v (map (bytes_of Little) fs) (section_ends strings p.names plan.part) (encoded_bytes Little section v fs encodes) in
+    omega (
+      arith,
+      length-canonical to v,
+      canonical_size to v told.valid,
+      sizes_told strings items types v told.each,
+      table,
+      length-take (p.names.end - p.names.start) (drop p.names.start strings),
+      length-drop p.names.start strings,
+    )
+
+pub is_encoded : (to : Order) (types : List TypeRow) (items : List ItemRow) (strings : List ℕ) (p : Plan) (v : List TypeRecord) (out : List ℕ) → IsPlan strings types items p → IsValid v
+    → AllZip (TellsType strings items) types v → out ≡ canonical to v → IsEncodedBtf to types items strings out
+is_encoded to types items strings p v out plan valid each form =
+    let near = All-weaker (HoldsNames p.names items) (AreNear items p.names.start) (names_near strings items p.names plan.part) types plan.holds in
+    let told : TellTypes types items strings v = record { valid = valid; each = each; start = p.names.start; near = near } in
+    record { v = v; told = told; form = form; fits = omega (arith, ap length form, told_fits to types items strings p v plan told) }

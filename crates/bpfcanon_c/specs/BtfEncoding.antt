@@ -1,17 +1,19 @@
 -- What the call that encodes the types that records say returns to C.
-use Rattle.std.specs.Prelude.{◌≡◌, ◌⊎◌, ℕ, List}
+use Rattle.std.specs.Prelude.{◌≡◌, ◌≤◌, ◌+◌, ◌⊎◌, ℕ, List, length}
+use Rattle.std.specs.List.{sum_by}
 use Rattle.bpf_words.specs.declared.Order.{Order}
 use Rattle.btf_types.specs.Values.{TypeRecord}
 use Rattle.bpf_canon.specs.btf.CanonicalBtf.{canonical}
 use Rattle.bpfcanon_c.specs.declared.btf_rows.{TypeRow.TypeRow, ItemRow.ItemRow}
 use Rattle.bpfcanon_c.specs.declared.answer.{Answer.Answer, Ending.Ending, Ending.TheVariants.First, Ending.TheVariants.Memory, FaultCode.FaultCode}
-use Rattle.bpfcanon_c.specs.{BtfSaying.TellTypes, BtfRefusal.IsRefused, Outputs.EndsInOrder, Outputs.EndsOutput, Outputs.IsAnswerOf}
+use Rattle.bpfcanon_c.specs.{BtfSaying.TellTypes, BtfPlain.row_size, BtfRefusal.IsRefused, Outputs.EndsInOrder, Outputs.EndsOutput, Outputs.IsAnswerOf}
 
--- the canonical bytes of the types that the records say
+-- the canonical bytes of the types that the records say: a buffer for the records, the strings and 25 bytes more is long enough
 pub record IsEncodedBtf (to : Order) (types : List TypeRow) (items : List ItemRow) (strings out : List ℕ) : Type 0 where
   pub v : List TypeRecord
   pub told : TellTypes types items strings v
   pub form : out ≡ canonical to v
+  pub fits : length out ≤ 25 + sum_by row_size types + length strings
 
 -- the records say no valid types; the position of the fault is the index of a type
 pub record IsNoBtf (types : List TypeRow) (items : List ItemRow) (strings : List ℕ) (code : FaultCode) : Type 0 where

@@ -26,6 +26,9 @@ use std::alloc::Global;
 /// `to`, at the start of `out`. The name of a record is at its offset in `strings`, with a NUL after
 /// it; the offset of an empty name isn't read. The items of a type are those from its `first` on.
 ///
+/// A buffer of 25 bytes, of the length of the records in BTF (24 bytes for each type and 12 for each
+/// of its items are enough), and of the length of `strings` is long enough.
+///
 /// # Errors
 ///
 /// Status 6 if `to` is neither 0 nor 1; 4 if memory runs out; 5 with the length of the output if

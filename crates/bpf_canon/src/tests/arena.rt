@@ -2,11 +2,8 @@
 //!
 //! A test gives a call 0 bytes, 1 byte, and so on. Each growth that needs more than the ones before it therefore fails once.
 
-ghost use Rattle.std.specs.Prelude.{◌<◌};
-ghost use Rattle.bpf_canon.specs.device.Memory.{source_failures};
-
 use super::expect::holds;
-use crate::{MemSource, RunCause, RunError, read_all};
+use crate::{RunCause, RunError};
 use bumpalo::Bump;
 use std::alloc::Global;
 use std::process::Abort;
@@ -48,16 +45,6 @@ pub(crate) fn whole_if(is_right: bool) -> Outcome {
     }
 }
 
-/// The outcome of a call that ran out of memory while it read a source of `len` bytes.
-pub(crate) fn refused_reading(alloc: Global, source: &mut MemSource<'_>, len: usize) -> Outcome
-    requires { source_failures source.old < u64.MAX }
-{
-    match read_all(alloc, source, len as u64) {
-        Ok(rest) => Outcome::Refused(len.saturating_sub(rest.len())),
-        Err(_) => Outcome::Wrong,
-    }
-}
-
 /// The outcome of a run that has these bytes to write, by those that its sink has stored. A growth of the sink that fails is a failed
 /// write.
 pub(crate) fn sunk<F: Drop>(ran: &Result<u64, RunError<F>>, out: &[u8], whole: &[u8]) -> Outcome {
@@ -84,8 +71,8 @@ pub(crate) struct Tally {
     /// How many rooms were too small, from 0 bytes on.
     pub(crate) refused: usize,
     /// The number of points of the call at which growths failed, and the last of them.
-    pub(crate) places: usize,
-    pub(crate) last_offset: Option<usize>,
+    pub(crate) points: usize,
+    pub(crate) last_point: Option<usize>,
     /// How many rooms were enough.
     pub(crate) done: usize,
     /// The first room in which the call returned something else, came less far than in a smaller one, or ran out of memory although a
@@ -98,8 +85,8 @@ impl Tally {
     pub(crate) fn of<C: ArenaCall>(rt: &impl Abort, alloc: Global, call: &C) -> Tally {
         let mut tally = Tally {
             refused: 0,
-            places: 0,
-            last_offset: None,
+            points: 0,
+            last_point: None,
             done: 0,
             wrong: None,
         };
@@ -117,25 +104,25 @@ impl Tally {
     fn count(&mut self, room: usize, outcome: Outcome) {
         match outcome {
             Outcome::Whole => self.done = self.done.saturating_add(1),
-            Outcome::Refused(place) if self.done == 0 && self.last_offset <= Some(place) => {
-                self.refuse(place);
+            Outcome::Refused(point) if self.done == 0 && self.last_point <= Some(point) => {
+                self.refuse(point);
             }
             _ => self.wrong = Some(room),
         }
     }
 
     /// Counts a call that ran out of memory at a point.
-    fn refuse(&mut self, place: usize) {
+    fn refuse(&mut self, point: usize) {
         self.refused = self.refused.saturating_add(1);
-        if self.last_offset != Some(place) {
-            self.places = self.places.saturating_add(1);
-            self.last_offset = Some(place);
+        if self.last_point != Some(point) {
+            self.points = self.points.saturating_add(1);
+            self.last_point = Some(point);
         }
     }
 
     /// Whether no answer was wrong, and at least this many rooms were too small, at this many points or more.
-    pub(crate) fn is_right(&self, refused: usize, places: usize) -> bool {
+    pub(crate) fn is_right(&self, refused: usize, points: usize) -> bool {
         let is_whole = self.done > ENOUGH && self.wrong.is_none();
-        is_whole && refused <= self.refused && places <= self.places
+        is_whole && refused <= self.refused && points <= self.points
     }
 }

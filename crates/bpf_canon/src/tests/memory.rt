@@ -1,63 +1,40 @@
-//! Each growth of the calls on instructions fails in turn.
+//! Each growth of the calls that have no command and no function of C fails in turn: the writers, the feed, and sinks that grow.
+//!
+//! The BTF has 26 types with 28 names, more than are sorted in place.
 
-use super::arena::{ArenaCall, Outcome, Tally, refused_reading, sunk, whole_if};
-use super::expect::holds;
+use super::arena::{ArenaCall, Outcome, Tally, sunk, whole_if};
+use super::btf_files::{BIG_INT, LOOSE_INT};
+use super::compiled_types::{flow_table_big, flow_table_little};
+use super::expect::{equal, holds};
+use super::own_table::Counting;
 use crate::{
-    InsnFeed, MemSink, MemSource, ReadError, RunCause, RunError, SideError, canon_insns, read_all,
-    recode_insns, run_insns, same_insns, write_insns,
+    InsnFeed, MemSink, MemSource, canon_btf, run_btf, run_insns, write_btf, write_insns,
 };
-use bpf_insn::{Insn, InsnError, Order, SlotCause, SlotFault};
+use bpf_insn::{Insn, InsnError, Order};
+use btf_types::BtfView;
 use bumpalo::Bump;
 use std::alloc::{AllocError, Allocator, Global};
 
-/// An exit seven times, and a faulty instruction.
-const FILE: &[u8; 64] =
-    b"\x95\0\0\0\0\0\0\0\x95\0\0\0\0\0\0\0\x95\0\0\0\0\0\0\0\x95\0\0\0\0\0\0\0\x95\0\0\0\0\0\0\0\x95\0\0\0\0\0\0\0\x95\0\0\0\0\0\0\0\x04\x10\0\0\x05\0\0\0";
-
-/// The exits alone.
+/// An exit seven times.
 const EXITS: &[u8; 56] =
     b"\x95\0\0\0\0\0\0\0\x95\0\0\0\0\0\0\0\x95\0\0\0\0\0\0\0\x95\0\0\0\0\0\0\0\x95\0\0\0\0\0\0\0\x95\0\0\0\0\0\0\0\x95\0\0\0\0\0\0\0";
 
-/// `mov r1, r2` seven times, and the same in big-endian order.
-const MOVES: &[u8; 56] =
-    b"\xbf\x21\0\0\0\0\0\0\xbf\x21\0\0\0\0\0\0\xbf\x21\0\0\0\0\0\0\xbf\x21\0\0\0\0\0\0\xbf\x21\0\0\0\0\0\0\xbf\x21\0\0\0\0\0\0\xbf\x21\0\0\0\0\0\0";
+/// How many bytes the canonical bytes of the BTF have: a header of 24, records of 540, and names of 187.
+const CANONICAL_LEN: usize = 751;
 
-const MOVES_BIG: &[u8; 56] =
-    b"\xbf\x12\0\0\0\0\0\0\xbf\x12\0\0\0\0\0\0\xbf\x12\0\0\0\0\0\0\xbf\x12\0\0\0\0\0\0\xbf\x12\0\0\0\0\0\0\xbf\x12\0\0\0\0\0\0\xbf\x12\0\0\0\0\0\0";
-
-/// The fault of the last instruction.
-const FAULT: SlotFault = SlotFault {
-    pos: 57,
-    cause: SlotCause::Src,
-};
-
-/// The vector grows for the first piece, and more than once after it.
-fn read(alloc: Global, bump: &Bump<Global>) -> Outcome {
-    let mut source = MemSource::new(FILE, 5, None);
-    match read_all(bump, &mut source, 100) {
-        Ok(read) => whole_if(read.as_slice() == FILE.as_slice()),
-        Err(ReadError::Memory) => refused_reading(alloc, &mut source, FILE.len()),
-        Err(_) => Outcome::Wrong,
-    }
-}
-
-fn write(bump: &Bump<Global>) -> Outcome {
+fn write_exits(bump: &Bump<Global>) -> Outcome {
     match write_insns(bump, Order::Little, &[Insn::Exit; 7]) {
         Ok(written) => whole_if(written.as_slice() == EXITS.as_slice()),
         Err(AllocError) => Outcome::Refused(0),
     }
 }
 
-/// The outcome of a call that returns these bytes or this fault.
-fn written<A: Allocator>(
-    answer: &Result<Vec<u8, A>, InsnError>,
-    wanted: Result<&[u8], SlotFault>,
-) -> Outcome {
-    match (answer, wanted) {
-        (Err(InsnError::Memory), _) => Outcome::Refused(0),
-        (Ok(bytes), Ok(whole)) => whole_if(bytes.as_slice() == whole),
-        (Err(InsnError::Fault(found)), Err(fault)) => whole_if(*found == fault),
-        _ => Outcome::Wrong,
+fn write_types(bump: &Bump<Global>, view: &BtfView<'_>, big: &[u8]) -> Outcome {
+    let table = Counting::new(view);
+    match write_btf(bump, Order::Big, &table) {
+        Ok(bytes) => whole_if(bytes.as_slice() == big),
+        // The calls of the table that were made show how far the writer came.
+        Err(AllocError) => Outcome::Refused(table.calls()),
     }
 }
 
@@ -98,28 +75,8 @@ fn fed(bump: &Bump<Global>) -> Outcome {
     }
 }
 
-/// An engine without memory for a piece has written the instructions before it.
-fn run(alloc: Global, bump: &Bump<Global>) -> Outcome {
-    // Pieces of five bytes make the engine's vector grow more than once.
-    let mut source = MemSource::new(FILE, 5, None);
-    let mut out = Vec::new(alloc);
-    let mut sink = MemSink::new(&mut out, 5, None);
-    let ran = run_insns(bump, &mut source, &mut sink, Order::Little, Order::Little);
-    let faulty = RunError {
-        cause: RunCause::Fault(FAULT),
-        written: 56,
-    };
-    match ran {
-        Err(stop) if stop.written != out.len() as u64 || !FILE.starts_with(&out) => Outcome::Wrong,
-        Err(stop) if stop.cause == RunCause::Memory => {
-            refused_reading(alloc, &mut source, FILE.len())
-        }
-        _ => whole_if(ran == Err(faulty)),
-    }
-}
-
 /// A growth of the sink's vector that fails is a failed write, the first growth and each later one.
-fn sink(alloc: Global, bump: &Bump<Global>) -> Outcome {
+fn sink_exits(alloc: Global, bump: &Bump<Global>) -> Outcome {
     let mut source = MemSource::new(EXITS, 24, None);
     let mut out = Vec::new(bump);
     let mut sink = MemSink::new(&mut out, 5, None);
@@ -127,69 +84,56 @@ fn sink(alloc: Global, bump: &Bump<Global>) -> Outcome {
     sunk(&ran, &out, EXITS)
 }
 
-/// A call, with its arguments and what it returns.
-enum Call {
-    Read,
-    Write,
-    Canonicalise(Order, &'static [u8], Result<&'static [u8], SlotFault>),
-    Recode(Order, &'static [u8], Order, &'static [u8]),
-    Compare(Order, &'static [u8], &'static [u8], Result<bool, SideError<SlotFault>>),
-    Feed,
-    Run,
-    Sink,
+/// Likewise for BTF.
+fn sink_types(alloc: Global, bump: &Bump<Global>) -> Outcome {
+    let mut source = MemSource::new(LOOSE_INT, 5, None);
+    let mut out = Vec::new(bump);
+    let mut sink = MemSink::new(&mut out, 5, None);
+    let ran = run_btf(alloc, &mut source, &mut sink, Order::Big);
+    sunk(&ran, &out, BIG_INT)
 }
 
-impl ArenaCall for Call {
+/// A call that allocates.
+#[derive(Clone, Copy)]
+enum Call<'a> {
+    WriteInsns,
+    /// The types, and what is written for them with ample memory.
+    WriteTypes(&'a BtfView<'a>, &'a [u8]),
+    Feed,
+    SinkInsns,
+    SinkTypes,
+}
+
+impl ArenaCall for Call<'_> {
     fn outcome(&self, alloc: Global, bump: &Bump<Global>) -> Outcome {
         match self {
-            Call::Read => read(alloc, bump),
-            Call::Write => write(bump),
-            Call::Canonicalise(order, file, wanted) => {
-                written(&canon_insns(bump, *order, file), *wanted)
-            }
-            Call::Recode(order, file, to, wanted) => {
-                written(&recode_insns(bump, *order, *to, file), Ok(wanted))
-            }
-            // Files are compared in place: running out of memory is wrong.
-            Call::Compare(order, first, second, answer) => {
-                whole_if(same_insns(bump, Order::Little, first, *order, second) == *answer)
-            }
+            Call::WriteInsns => write_exits(bump),
+            Call::WriteTypes(view, big) => write_types(bump, view, big),
             Call::Feed => fed(bump),
-            Call::Run => run(alloc, bump),
-            Call::Sink => sink(alloc, bump),
+            Call::SinkInsns => sink_exits(alloc, bump),
+            Call::SinkTypes => sink_types(alloc, bump),
         }
     }
 }
 
-/// A call, how many rooms are too small for it, and at how many points growths fail, each at least.
-struct MemoryRow {
-    name: &'static str,
-    call: Call,
-    refused: usize,
-    places: usize,
-}
-
-#[rattlefmt::skip]
-static ROWS: [MemoryRow; 11] = [
-    MemoryRow { name: "read", call: Call::Read, refused: 64, places: 3 },
-    MemoryRow { name: "write", call: Call::Write, refused: 56, places: 1 },
-    MemoryRow { name: "canonicalise", call: Call::Canonicalise(Order::Big, MOVES_BIG, Ok(MOVES)), refused: 56, places: 1 },
-    // The fault of a faulty file is never another.
-    MemoryRow { name: "canonicalise a faulty file", call: Call::Canonicalise(Order::Little, FILE, Err(FAULT)), refused: 1, places: 1 },
-    MemoryRow { name: "recode", call: Call::Recode(Order::Little, MOVES, Order::Big, MOVES_BIG), refused: 56, places: 1 },
-    MemoryRow { name: "compare equal files", call: Call::Compare(Order::Big, MOVES, MOVES_BIG, Ok(true)), refused: 0, places: 0 },
-    MemoryRow { name: "compare other files", call: Call::Compare(Order::Little, EXITS, b"", Ok(false)), refused: 0, places: 0 },
-    MemoryRow { name: "compare with a faulty file", call: Call::Compare(Order::Little, EXITS, FILE, Err(SideError::Second(FAULT))), refused: 0, places: 0 },
-    MemoryRow { name: "feed", call: Call::Feed, refused: 56, places: 3 },
-    MemoryRow { name: "run", call: Call::Run, refused: 2, places: 2 },
-    MemoryRow { name: "run into a sink", call: Call::Sink, refused: 56, places: 3 },
-];
-
 #[test]
 fn each_growth_is_refused(rt: HostRuntime) {
-    for row in &ROWS {
-        let tally = Tally::of(&rt, rt.alloc(), &row.call);
-        let is_right = tally.is_right(row.refused, row.places);
-        holds(&rt, is_right, &(row.name, tally));
+    let view = BtfView::parse(rt.alloc(), flow_table_little()).expect(&rt, "a table");
+    let big = write_btf(rt.alloc(), Order::Big, &view).expect(&rt, "ample memory");
+    let little = canon_btf(rt.alloc(), flow_table_big()).expect(&rt, "canonical bytes");
+    let lens = (little.len(), big.len());
+    equal(&rt, &lens, &(CANONICAL_LEN, CANONICAL_LEN), &"the lengths");
+    // A call, how many arenas are too small for it, and at how many points growths fail, each at least.
+    let rows = [
+        ("write", Call::WriteInsns, 56, 1),
+        ("write types", Call::WriteTypes(&view, &big), CANONICAL_LEN, 4),
+        ("feed", Call::Feed, 56, 3),
+        ("run into a sink", Call::SinkInsns, 56, 3),
+        ("run types into a sink", Call::SinkTypes, 45, 3),
+    ];
+    for (name, call, refused, points) in &rows {
+        let tally = Tally::of(&rt, rt.alloc(), call);
+        let is_right = tally.is_right(*refused, *points);
+        holds(&rt, is_right, &(*name, tally));
     }
 }

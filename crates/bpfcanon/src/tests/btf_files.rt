@@ -1,6 +1,4 @@
-//! BTF files of a given size.
-
-use std::alloc::{AllocError, Global};
+//! BTF files, and what is shown of them.
 
 /// No types, and a string section of one NUL.
 pub const NO_TYPES: &[u8] = b"\x9f\xeb\x01\0\x18\0\0\0\0\0\0\0\0\0\0\0\0\0\0\0\x01\0\0\0\0";
@@ -32,50 +30,4 @@ pub fn point() -> &'static [u8] {
     \0\0\0\x05\x04\0\0\x02\0\0\0\x08\
     \0\0\0\x0b\0\0\0\x01\0\0\0\0\0\0\0\x0d\0\0\0\x01\0\0\0\x20\
     \0int\0point\0x\0y\0"
-}
-
-/// A file and its listing.
-#[derive(Drop)]
-pub struct Shown {
-    pub file: Vec<u8>,
-    pub text: Vec<u8>,
-}
-
-/// Parts one after another, each as often as its number says.
-pub fn joined(alloc: Global, parts: &[(&[u8], usize)]) -> Result<Vec<u8>, AllocError> {
-    let mut all = Vec::new(alloc);
-    for (part, count) in parts {
-        for _ in 0..*count {
-            all.extend_from_slice(part)?;
-        }
-    }
-    Ok(all)
-}
-
-/// A file of 1,000 types without names: two CONSTs of void, and PTRs to void.
-pub fn nameless(alloc: Global) -> Result<Shown, AllocError> {
-    let file: [(&[u8], usize); 4] = [
-        (
-            b"\x9f\xeb\x01\0\x18\0\0\0\0\0\0\0\xe0\x2e\0\0\xe0\x2e\0\0\x01\0\0\0",
-            1,
-        ),
-        (b"\0\0\0\0\0\0\0\x0a\0\0\0\0", 2),
-        (b"\0\0\0\0\0\0\0\x02\0\0\0\0", 998),
-        (b"\0", 1),
-    ];
-    Ok(Shown {
-        file: joined(alloc, &file)?,
-        text: nameless_text(alloc)?,
-    })
-}
-
-/// Its listing.
-fn nameless_text(alloc: Global) -> Result<Vec<u8>, AllocError> {
-    let mut text = Vec::new(alloc);
-    for number in 1..=1000 {
-        let kind = if number <= 2 { "const" } else { "ptr" };
-        let line = format!(in alloc; "[{number}] {kind} type=0\n")?;
-        text.extend_from_slice(line.as_bytes())?;
-    }
-    Ok(text)
 }

@@ -2,25 +2,15 @@
 use Rattle.std.proofs.Common.{◌≡◌, ◌∙◌, ap, inr, subst, arith}
 use Rattle.btf_raw.specs.{declared.cause.BtfFault.BtfFault, Cause.number_of}
 use Rattle.btf_types.specs.{declared.error.BtfError.BtfError, declared.error.BtfError.TheVariants.Fault, tables.Tables.Fails}
-use Rattle.std.proofs.lemmas.List.Elements.{All-weaker}
-use Rattle.bpfcanon_c.specs.{BtfSaying.AreNear, BtfPlain.HoldsNames, BtfRefusal.IsIndexAt}
-use Rattle.bpfcanon_c.proofs.BtfPlans.{names_near}
+use Rattle.bpfcanon_c.specs.BtfRefusal.{IsIndexAt}
+use Rattle.bpfcanon_c.proofs.BtfDenoted.{is_encoded}
 use Rattle.bpfcanon_c.proofs.BtfRefused.{refused_faulty, refused_other}
 use Rattle.bpfcanon_c.proofs.btf_encode.canonical_of_plain.Goals as goal
 
 pub returns : goal.returns
-returns c = record {
-  v = _;
-  told = record {
-    valid = c.in_ok-write_btf-in-None.ensures.accepted.valid;
-    each = c.in-None.ensures;
-    start = c.args.plan.names.start;
-    near =
-        All-weaker (HoldsNames c.args.plan.names c.args.items.now) (AreNear c.args.items.now c.args.plan.names.start) (names_near c.args.strings.now c.args.items.now c.args.plan.names c.requires.plan.part)
-        c.args.types.now c.requires.plan.holds;
-  };
-  form = c.in_ok-write_btf-in-None.ensures.form;
-}
+returns c =
+    is_encoded c.args.to c.args.types.now c.args.items.now c.args.strings.now c.args.plan _ c.in_ok-write_btf-in-None.field-0.items c.requires.plan c.in_ok-write_btf-in-None.ensures.accepted.valid
+    c.in-None.ensures c.in_ok-write_btf-in-None.ensures.form
 
 pub returns-in-Some : goal.returns-in-Some
 returns-in-Some c = record {
