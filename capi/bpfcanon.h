@@ -687,6 +687,9 @@ bpfcanon_answer bpfcanon_btf_decode(const uint8_t *bytes, size_t len, bpfcanon_b
  *   - 0: a field that has to be 0 isn't, a number is too large for its field in BTF, an item is of
  *     another kind, or a name has a NUL.
  *
+ * A capacity of 25 bytes, 24 for each type, 12 for each item of each type, and `strings_len` is
+ * always enough.
+ *
  * Statuses: DONE, FAULT, OUT_OF_MEMORY, ROOM, ORDER, ALIGNMENT.
  */
 bpfcanon_answer bpfcanon_btf_encode(uint32_t to, const bpfcanon_btf_type *types,

@@ -203,7 +203,8 @@ fn component_word(component: i32) -> u32
 
 /// Appends the fields after the third of a type and before its items.
 fn push_tail(out: &mut Vec<u8>, row: &TypeRow) -> Result<(), AllocError>
-    ensures { OnOk result (out.new.items ≡ out.old.items ++ bytes_of Little (spec.tail_of row.now)) }
+    ensures { OnOk result (out.new.items
+        ≡ out.old.items ++ bytes_of Little (spec.tail_of row.now)) }
 {
     match row.kind {
         INT => {
