@@ -14,7 +14,7 @@ use bpf_elf::Elf;
 use std::alloc::Allocator;
 
 /// The new offset of the name of a section that is kept.
-pub(crate) fn section_offset<A: Allocator>(
+pub(crate) fn section_name_offset<A: Allocator>(
     names: &DistinctOffsets<'_, A>,
     elf: &Elf<'_>,
     i: usize,
@@ -28,7 +28,7 @@ pub(crate) fn section_offset<A: Allocator>(
 }
 
 /// The new offset of the name of a symbol that is kept.
-pub(crate) fn symbol_offset<A: Allocator>(
+pub(crate) fn symbol_name_offset<A: Allocator>(
     names: &DistinctOffsets<'_, A>,
     elf: &Elf<'_>,
     j: usize,

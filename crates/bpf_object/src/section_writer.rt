@@ -12,7 +12,7 @@ ghost use Rattle.bpf_object.specs.Tables as tables;
 ghost use Rattle.bpf_object.specs.WrittenSections.{section_value};
 
 use crate::file::WrittenSection;
-use crate::new_offsets::section_offset;
+use crate::new_offsets::section_name_offset;
 use crate::numbering::{counted, is_kept_section, is_table};
 use crate::symbol_rows::sections_before;
 use bpf_canon::DistinctOffsets;
@@ -88,7 +88,7 @@ fn kept_section<'a, B: Allocator>(
 {
     let section = elf.section(i);
     WrittenSection {
-        name_offset: section_offset(names, elf, i),
+        name_offset: section_name_offset(names, elf, i),
         section_type: section.section_type,
         flags: section.flags,
         address: section.address,

@@ -12,7 +12,7 @@ ghost use Rattle.bpf_object.specs.NotedStrings.{placed};
 ghost use Rattle.bpf_object.specs.SymbolRows as rows;
 
 use crate::file::push64;
-use crate::new_offsets::symbol_offset;
+use crate::new_offsets::symbol_name_offset;
 use crate::numbering::counted;
 use bpf_canon::DistinctOffsets;
 use bpf_elf::{Elf, Symbol, is_special};
@@ -79,7 +79,7 @@ fn push_symbol<A: Allocator, B: Allocator>(
         ++ symbol_bytes (order_of elf.now) (placed names.now) (spec.kept_symbol elf.now j)) }
 {
     let symbol = elf.symbol(j);
-    let name = symbol_offset(names, elf, j);
+    let name = symbol_name_offset(names, elf, j);
     let section = symbol_section(elf, numbers, symbol.section);
     push_row(out, elf.order(), symbol, name, section)
 }

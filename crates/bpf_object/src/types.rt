@@ -115,8 +115,8 @@ fn check_sections(x: TypesSource<'_>, sections: &FileSections<'_>) -> Result<(),
 
 /// Checks the section .BTF of an object file, and gives its types.
 ///
-/// `order` is the byte order of the file, `header_offset` the offset in bytes of the section's header in
-/// it, and `start` that of the section. `bytes` are the section.
+/// `order` is the byte order of the file, `header_offset` the offset in bytes of the section's
+/// header in it, and `start` that of the section. `bytes` are the section.
 ///
 /// # Errors
 ///

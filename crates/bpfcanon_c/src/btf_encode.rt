@@ -23,11 +23,12 @@ use btf_types::{BtfError, BtfView, Head, Item, TypeTable};
 use std::alloc::Global;
 
 /// Writes the canonical BTF (btf.rst section 2) of the types that records say, in the byte order
-/// `to`, at the start of `out`. The name of a record is at its offset in `strings`, with a NUL after
-/// it; the offset of an empty name isn't read. The items of a type are those from its `first` on.
+/// `to`, at the start of `out`. The name of a record is at its offset in `strings`, with a NUL
+/// after it; the offset of an empty name isn't read. The items of a type are those from its `first`
+/// on.
 ///
-/// A buffer of 25 bytes, of the length of the records in BTF (24 bytes for each type and 12 for each
-/// of its items are enough), and of the length of `strings` is long enough.
+/// A buffer of 25 bytes, of the length of the records in BTF (at most 24 bytes for each type and 12
+/// for each of its items), and of the length of `strings` is always long enough.
 ///
 /// # Errors
 ///
@@ -35,8 +36,8 @@ use std::alloc::Global;
 /// `out` is shorter; 2 if the records say no valid types, with the index of a type as position. Its
 /// cause is that of the first of these faults:
 ///
-/// - A type lacks what BTF needs: a kind (`KindNumber`), one of its items (`TailCut`), or a name with
-///   a NUL after it (`NameRange`). Or the names of the types so far are more than 16 MiB apart
+/// - A type lacks what BTF needs: a kind (`KindNumber`), one of its items (`TailCut`), or a name
+///   with a NUL after it (`NameRange`). Or the names of the types so far are more than 16 MiB apart
 ///   (`StringLength`), or their records are longer than 32 MiB (`TypeLength`).
 /// - The first fault of the BTF of the records.
 /// - 0 for a record that isn't that of its type: a field that the kind hasn't isn't 0, a number is

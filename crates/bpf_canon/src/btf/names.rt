@@ -155,8 +155,8 @@ impl<'a, A: Allocator> Model for SharedNames<'a, A> {
 
     ghost view = { λ n. borrowed_texts n.names.keys };
 
-    ghost invariant = { λ n. AreShared (borrowed_texts n.names.keys) n.host_indices.items n.places.items
-        n.table_len };
+    ghost invariant = { λ n. AreShared (borrowed_texts n.names.keys)
+        n.host_indices.items n.places.items n.table_len };
 }
 
 impl<'a, A: Allocator + Copy> SharedNames<'a, A> {

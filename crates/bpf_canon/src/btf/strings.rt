@@ -23,8 +23,8 @@
 //! - `ranked_texts.rt`: of the names that end at the same NUL only the longest can be a host. These
 //!   are sorted by their bytes from the end, which gives each a rank and the length of the suffix
 //!   that it has in common with the one before it.
-//! - `shared_offsets.rt`: the host of a name is found from the first rank whose string ends with it:
-//!   it is the next string, from there on, that isn't a suffix of the one after it. Hosts are
+//! - `shared_offsets.rt`: the host of a name is found from the first rank whose string ends with
+//!   it: it is the next string, from there on, that isn't a suffix of the one after it. Hosts are
 //!   appended to the table in the order of first use, and each name is at the end of its host.
 //! - `distinct_offsets.rt`: instead, the table of a canonical object file, in which no names share
 //!   bytes.

@@ -163,7 +163,8 @@ impl<A: Allocator> DistinctOffsets<'_, A> {
     /// one of the noted offsets.
     pub fn new_offset(&self, off: u32) -> u32
         requires { Contains self.now.offsets off }
-        ensures { result ≡ distinct_offset (placed_texts self.now) (text_from self.now.strings off) }
+        ensures { result
+            ≡ distinct_offset (placed_texts self.now) (text_from self.now.strings off) }
     {
         self.places[self.used.number(off as usize)]
     }

@@ -229,7 +229,8 @@ fn new_name_offsets<A: Allocator>(
 ) -> Result<Vec<u32, A>, AllocError>
     requires ranked { All (λ at. 0 < at.len → at.host < length by_rank.now) in_hosts.now }
     requires fits { All (λ at. new_name_offset by_rank.now at < 2 ^ 32) in_hosts.now }
-    ensures { IfOk result (λ places. places.items ≡ map (new_name_offset by_rank.now) in_hosts.now) }
+    ensures { IfOk result (λ places.
+        places.items ≡ map (new_name_offset by_rank.now) in_hosts.now) }
 {
     let mut places = Vec::with_capacity(alloc, in_hosts.len())?;
     for at in in_hosts {

@@ -6,8 +6,8 @@ use Rattle.bpf_object.proofs.FileStringLemmas.{symbol_noted}
 use Rattle.bpf_object.proofs.KeptLemmas.{symbol_row_is}
 use Rattle.bpf_object.proofs.symbol_rows.push_symbol.Goals as goal
 
-pub symbol_offset-name-requires-clause-noted : goal.symbol_offset-name-requires-clause-noted
-symbol_offset-name-requires-clause-noted g c =
+pub symbol_name_offset-name-requires-clause-noted : goal.symbol_name_offset-name-requires-clause-noted
+symbol_name_offset-name-requires-clause-noted g c =
     symbol_noted c.args.elf.now c.args.names.now c.args.j c.requires.names c.requires.there c.requires.kept
 
 pub returns : goal.returns
@@ -16,6 +16,6 @@ returns g c =
     let row = c.symbol-symbol.ensures.fields in
     let section = c.symbol_section-section.ensures ∙ ap (symbol_section b) row.section in
     let same =
-    symbol_row_is b (placed c.args.names.now) c.args.j c.order.result _ _ _ _ _ _ c.order.ensures c.symbol_offset-name.ensures row.info row.other section
+    symbol_row_is b (placed c.args.names.now) c.args.j c.order.result _ _ _ _ _ _ c.order.ensures c.symbol_name_offset-name.ensures row.info row.other section
     row.value row.size in
     subst (λ (t : List ℕ). OnOk c.push_row.result (c.push_row.new.out.items ≡ c.args.out.now.items ++ t)) same c.push_row.ensures

@@ -2,7 +2,7 @@ use Rattle.std.proofs.Common.{◌∙◌, ap}
 use Rattle.bpf_elf.specs.Names.{string_at}
 use Rattle.bpf_object.specs.FileStrings.{all_strings, section_strings}
 use Rattle.bpf_object.proofs.FileStringLemmas.{section_text, place_is}
-use Rattle.bpf_object.proofs.new_offsets.section_offset.Goals as goal
+use Rattle.bpf_object.proofs.new_offsets.section_name_offset.Goals as goal
 
 pub returns : goal.returns
 returns g c =

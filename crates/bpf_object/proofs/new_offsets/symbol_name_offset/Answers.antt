@@ -3,7 +3,7 @@ use Rattle.btf_types.specs.Reading.{text_from}
 use Rattle.bpf_elf.specs.Symbols.{st_name}
 use Rattle.bpf_object.specs.FileStrings.{all_strings}
 use Rattle.bpf_object.proofs.FileStringLemmas.{symbol_text, place_is}
-use Rattle.bpf_object.proofs.new_offsets.symbol_offset.Goals as goal
+use Rattle.bpf_object.proofs.new_offsets.symbol_name_offset.Goals as goal
 
 pub returns : goal.returns
 returns g c =
