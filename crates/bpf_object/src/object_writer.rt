@@ -62,7 +62,7 @@ fn table_rows<A: Allocator + Copy>(alloc: A, elf: &Elf<'_>) -> Result<Vec<u8, A>
     Ok(rows)
 }
 
-/// The contents of a file with these places of its strings.
+/// The contents of a file with these offsets of its strings.
 fn parts_of<A: Allocator + Copy>(
     alloc: A,
     elf: &Elf<'_>,
@@ -149,52 +149,54 @@ fn symtab_number<A: Allocator>(
 /// Appends .symtab and .strtab.
 fn push_last<'a, A: Allocator, B: Allocator, C: Allocator>(
     sections: &mut Vec<WrittenSection<'a>, A>,
-    names: &'a DistinctOffsets<'_, B>,
+    names: DistinctOffsets<'_, B>,
     elf: &Elf<'_>,
     parts: &'a Parts<C>,
     symtab: u32,
+    table: &'a mut Vec<u8, B>,
 ) -> Result<(), AllocError>
-    requires names { strings.HasFileStrings elf.now names.now }
+    requires names { strings.HasFileStrings elf.now names }
     requires small { symtab < 2 ^ 17 }
     ensures { OnOk result (map section_value sections.new.items
         ≡ map section_value sections.old.items
-        ++ last_sections elf.now (placed names.now) symtab parts.now.symbols.items
-        (distinct_table (placed_texts names.now))) }
+        ++ last_sections elf.now (placed names.entry) symtab parts.now.symbols.items
+        (distinct_table (placed_texts names.entry))) }
 {
     let symbols = parts.symbols.as_slice();
-    let name = own_name_offset(names, elf, OwnSection::Symbols);
+    let name = own_name_offset(&names, elf, OwnSection::Symbols);
     let first = first_global(elf);
     sections.push(own_section(name, SHT_SYMTAB, symbols, symtab + 1, first, 8, 24))?;
-    let strings = names.table();
-    let name = own_name_offset(names, elf, OwnSection::Strings);
-    sections.push(own_section(name, SHT_STRTAB, strings, 0, 0, 1, 0))?;
+    let name = own_name_offset(&names, elf, OwnSection::Strings);
+    *table = names.into_table();
+    sections.push(own_section(name, SHT_STRTAB, &table[..], 0, 0, 1, 0))?;
     Ok(())
 }
 
 /// Appends all sections.
 fn push_all<'a, A: Allocator, B: Allocator, C: Allocator>(
     sections: &mut Vec<WrittenSection<'a>, A>,
-    names: &'a DistinctOffsets<'_, B>,
+    names: DistinctOffsets<'_, B>,
     elf: &'a Elf<'_>,
     parts: &'a Parts<C>,
     types: Option<&'a [u8]>,
     extension: Option<&'a [u8]>,
+    table: &'a mut Vec<u8, B>,
 ) -> Result<(), AllocError>
     requires names { strings.HasOwnStrings elf.now (content_of types) (content_of extension)
-        names.now }
-    requires parts { AreParts elf.now names.now parts.now }
+        names }
+    requires parts { AreParts elf.now names parts.now }
     ensures { OnOk result (map section_value sections.new.items
         ≡ map section_value sections.old.items
-        ++ all_sections elf.now (placed names.now) (content_of types.entry)
+        ++ all_sections elf.now (placed names.entry) (content_of types.entry)
         (content_of extension.entry)
-        parts.now.symbols.items (distinct_table (placed_texts names.now))) }
+        parts.now.symbols.items (distinct_table (placed_texts names.entry))) }
 {
     let symtab = symtab_number(elf, parts, types.is_some(), extension.is_some());
     let rows = parts.rows.as_slice();
-    push_kept(sections, names, elf, &parts.numbers, rows, symtab)?;
-    push_types(sections, names, elf, OwnSection::Types, types)?;
-    push_types(sections, names, elf, OwnSection::Extension, extension)?;
-    push_last(sections, names, elf, parts, symtab)?;
+    push_kept(sections, &names, elf, &parts.numbers, rows, symtab)?;
+    push_types(sections, &names, elf, OwnSection::Types, types)?;
+    push_types(sections, &names, elf, OwnSection::Extension, extension)?;
+    push_last(sections, names, elf, parts, symtab, table)?;
     Ok(())
 }
 
@@ -259,29 +261,30 @@ fn borrowed<'x>(content: &'x Option<&[u8]>) -> Option<&'x [u8]>
     }
 }
 
-/// The file of these contents, or `None` if it is larger than a file may be.
-fn write_parts<'a, A: Allocator + Copy>(
+/// All sections. Their string table is moved to `table`, and the offsets of names are freed.
+fn sections_of<'a, A: Allocator + Copy>(
     alloc: A,
     elf: &'a Elf<'_>,
-    names: &'a DistinctOffsets<'_, A>,
+    names: DistinctOffsets<'_, A>,
     parts: &'a Parts<A>,
-    types: Option<&'a [u8]>,
-    extension: Option<&'a [u8]>,
-) -> Result<Option<Vec<u8, A>>, AllocError>
+    types: &'a Option<&[u8]>,
+    extension: &'a Option<&[u8]>,
+    table: &'a mut Vec<u8, A>,
+) -> Result<Vec<WrittenSection<'a>, A>, AllocError>
     requires rules { IsElf elf.now }
-    requires names { strings.HasOwnStrings elf.now (content_of types) (content_of extension)
-        names.now }
-    requires parts { AreParts elf.now names.now parts.now }
-    ensures { IfOk result
-        (IsFileWith elf.now (content_of types.entry) (content_of extension.entry)) }
+    requires names { strings.HasOwnStrings elf.now (content_of types.now)
+        (content_of extension.now) names }
+    requires parts { AreParts elf.now names parts.now }
+    ensures { IfOk result (λ sections. map section_value sections.items
+        ≡ spec.sections_with elf.now (content_of types.now) (content_of extension.now)) }
 {
     let mut sections = Vec::new(alloc);
-    push_all(&mut sections, names, elf, parts, types, extension)?;
-    let found = write_fitting(alloc, elf, &sections)?;
-    Ok(found)
+    let (types, extension) = (borrowed(types), borrowed(extension));
+    push_all(&mut sections, names, elf, parts, types, extension, table)?;
+    Ok(sections)
 }
 
-/// The places of the strings in .strtab, or `None` if that is larger than a file may be.
+/// The offsets of the strings in .strtab, or `None` if that is larger than a file may be.
 fn find_offsets<'s, A: Allocator + Copy>(
     alloc: A,
     elf: &Elf<'_>,
@@ -318,6 +321,10 @@ pub(crate) fn write_object<A: Allocator + Copy>(
         return Ok(None);
     };
     let parts = parts_of(alloc, elf, &names)?;
-    let (types, extension) = (borrowed(&types), borrowed(&extension));
-    write_parts(alloc, elf, &names, &parts, types, extension)
+    let mut table = Vec::new(alloc);
+    let sections = sections_of(alloc, &*elf, names, &parts, &types, &extension, &mut table)?;
+    // The table has the strings of the file, and the memory of this copy is for the file itself.
+    drop(strings);
+    let file = write_fitting(alloc, elf, &sections)?;
+    Ok(file)
 }

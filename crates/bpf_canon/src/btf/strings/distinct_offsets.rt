@@ -176,4 +176,11 @@ impl<A: Allocator> DistinctOffsets<'_, A> {
     {
         &self.table
     }
+
+    /// Returns the table, and frees the memory of all else.
+    pub fn into_table(self) -> Vec<u8, A>
+        ensures { result.items ≡ distinct_table (placed_texts self.entry) }
+    {
+        self.table
+    }
 }

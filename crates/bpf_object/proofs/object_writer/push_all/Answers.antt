@@ -10,16 +10,16 @@ use Rattle.bpf_object.proofs.object_writer.push_all.Goals as goal
 
 pub push_types-requires-clause-noted : goal.push_types-requires-clause-noted
 push_types-requires-clause-noted g c =
-    types_noted c.args.elf.now (content_of c.args.types) (content_of c.args.extension) c.args.names.now c.requires.names
+    types_noted c.args.elf.now (content_of c.args.types) (content_of c.args.extension) c.args.names c.requires.names
 
 pub push_types-requires-2-clause-noted : goal.push_types-requires-2-clause-noted
 push_types-requires-2-clause-noted g c =
-    extension_noted c.args.elf.now (content_of c.args.types) (content_of c.args.extension) c.args.names.now c.requires.names
+    extension_noted c.args.elf.now (content_of c.args.types) (content_of c.args.extension) c.args.names c.requires.names
 
 pub returns : goal.returns
 returns g c =
     let b = c.args.elf.now in
-    let place = placed c.args.names.now in
+    let place = placed c.args.names in
     let types = content_of c.args.types in
     let extension = content_of c.args.extension in
     let old = map section_value c.args.sections.now.items in
@@ -27,5 +27,5 @@ returns g c =
     let symtab = symtab_is b c.args.types c.args.extension _ _ _ c.is_some.ensures c.is_some-2.ensures c.symtab_number-symtab.ensures.value in
     subst (λ (n : ℕ). new ≡ old ++ (written_kept b place n (count b)
     ++ ((section_with place (codes ".BTF") types ++ section_with place (codes ".BTF.ext") extension)
-    ++ last_sections b place n c.args.parts.now.symbols.items (distinct_table (placed_texts c.args.names.now))))) symtab
+    ++ last_sections b place n c.args.parts.now.symbols.items (distinct_table (placed_texts c.args.names))))) symtab
     (four_pushed old _ _ _ new _ _ _ _ c.in_ok-push_kept.ensures c.in_ok-push_types.ensures c.in_ok-push_types-2.ensures c.in_ok-push_last.ensures)

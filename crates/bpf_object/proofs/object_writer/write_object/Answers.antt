@@ -1,7 +1,7 @@
-use Rattle.std.proofs.Common.{ℕ, Option, List, [], refl, subst, sym}
-use Rattle.bpf_object.specs.FileStrings.{HasOwnStrings}
+use Rattle.std.proofs.Common.{[], ap, map, refl, ◌∙◌}
 use Rattle.bpf_object.specs.Written.{content_of}
-use Rattle.bpf_object.proofs.PartLemmas.{strings_too_long}
+use Rattle.bpf_object.specs.WrittenSections.{section_value}
+use Rattle.bpf_object.proofs.PartLemmas.{fitting_is, strings_too_long}
 use Rattle.bpf_object.proofs.StringsFit.{table_long, if_none, if_some, own_strings_are}
 use Rattle.bpf_object.proofs.object_writer.write_object.Goals as goal
 
@@ -12,12 +12,13 @@ returns-in_default g c =
     strings_too_long b (content_of c.args.types) (content_of c.args.extension)
     (table_long b c.args.types c.args.extension _ c.is_some.result c.is_some-2.result c.in_ok-strings.ensures.rules c.is_some.ensures c.is_some-2.ensures long)
 
-pub write_parts-requires-clause-names : goal.write_parts-requires-clause-names
-write_parts-requires-clause-names g c =
-    let b = c.args.elf.now in
+pub sections_of-requires-clause-names : goal.sections_of-requires-clause-names
+sections_of-requires-clause-names g c =
     let names = if_some c.in_ok-found.found c.in-Some.names _ _ c.in-Some.is c.in_ok-found.ensures in
-    let own =
-    own_strings_are b c.args.types c.args.extension c.in-Some.names [] c.is_some.result c.is_some-2.result names.0 names.1 refl c.is_some.ensures
-    c.is_some-2.ensures in
-    subst (λ (t : Option (List ℕ)). HasOwnStrings b t (content_of c.borrowed-extension.result) c.in-Some.names) (sym c.borrowed-types.ensures)
-    (subst (λ (e : Option (List ℕ)). HasOwnStrings b (content_of c.args.types) e c.in-Some.names) (sym c.borrowed-extension.ensures) own)
+    own_strings_are c.args.elf.now c.args.types c.args.extension c.in-Some.names [] c.is_some.result c.is_some-2.result names.0 names.1 refl c.is_some.ensures
+    c.is_some-2.ensures
+
+pub returns : goal.returns
+returns g c =
+    let same = ap (map section_value) c.deref-2.ensures.value ∙ c.in_ok-sections.ensures in
+    fitting_is c.args.elf.now (content_of c.args.types) (content_of c.args.extension) (map section_value c.deref-2.result.now) c.in_ok-file.file same c.in_ok-file.ensures
