@@ -21,8 +21,8 @@ ghost use Rattle.bpf_object.specs.Written.{content_of};
 ghost use Rattle.bpf_object.specs.WrittenSections.{section_at, section_value};
 
 use crate::file::{WrittenSection, padded_len, write_file};
-use crate::new_offsets::own_name_offset;
 use crate::file_strings::{OwnSection, all_strings, note_strings};
+use crate::new_offsets::own_name_offset;
 use crate::numbering::{section_numbers, symbol_numbers};
 use crate::relocation_rows::push_tables;
 use crate::section_writer::{kept_count, push_kept};

@@ -7,9 +7,7 @@ use super::btf_files::{BIG_INT, LOOSE_INT};
 use super::compiled_types::{flow_table_big, flow_table_little};
 use super::expect::{equal, holds};
 use super::own_table::Counting;
-use crate::{
-    InsnFeed, MemSink, MemSource, canon_btf, run_btf, run_insns, write_btf, write_insns,
-};
+use crate::{InsnFeed, MemSink, MemSource, canon_btf, run_btf, run_insns, write_btf, write_insns};
 use bpf_insn::{Insn, InsnError, Order};
 use btf_types::BtfView;
 use bumpalo::Bump;
@@ -126,7 +124,12 @@ fn each_growth_is_refused(rt: HostRuntime) {
     // A call, how many arenas are too small for it, and at how many points growths fail, each at least.
     let rows = [
         ("write", Call::WriteInsns, 56, 1),
-        ("write types", Call::WriteTypes(&view, &big), CANONICAL_LEN, 4),
+        (
+            "write types",
+            Call::WriteTypes(&view, &big),
+            CANONICAL_LEN,
+            4,
+        ),
         ("feed", Call::Feed, 56, 3),
         ("run into a sink", Call::SinkInsns, 56, 3),
         ("run types into a sink", Call::SinkTypes, 45, 3),

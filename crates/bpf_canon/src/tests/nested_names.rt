@@ -66,7 +66,11 @@ fn plain_file(
     let second = text_at(strings, second as usize);
     let third = text_at(strings, third as usize);
     let table = PlainTable::of(rt, alloc, &[first, second, third]);
-    let places = [table.new_offset(first), table.new_offset(second), table.new_offset(third)];
+    let places = [
+        table.new_offset(first),
+        table.new_offset(second),
+        table.new_offset(third),
+    ];
     file(rt, alloc, order, &words(places), &table.bytes(rt, alloc))
 }
 
