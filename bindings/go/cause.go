@@ -137,8 +137,8 @@ const (
 	ErrObjectResultTooLarge                                 // the canonical file has more than 64 MiB, or its .BTF more than 15 MiB
 )
 
-// String returns the name of the cause, for example "Opcode", or "InsnCause(9)" for a number without
-// a name.
+// String returns the name of the cause, for example "Opcode", or "InsnCause(999)" for a number
+// without a name.
 func (c InsnCause) String() string {
 	return nameOr(capi.InsnCauseName(uint32(c)), "InsnCause", uint32(c))
 }
@@ -148,8 +148,8 @@ func (c InsnCause) Error() string {
 	return nameOr(capi.InsnCauseText(uint32(c)), "InsnCause", uint32(c))
 }
 
-// String returns the name of the cause, for example "Shape", or "LineCause(5)" for a number without
-// a name.
+// String returns the name of the cause, for example "Shape", or "LineCause(999)" for a number
+// without a name.
 func (c LineCause) String() string {
 	return nameOr(capi.LineCauseName(uint32(c)), "LineCause", uint32(c))
 }
@@ -159,8 +159,8 @@ func (c LineCause) Error() string {
 	return nameOr(capi.LineCauseText(uint32(c)), "LineCause", uint32(c))
 }
 
-// String returns the name of the cause, for example "Magic", or "BTFCause(33)" for a number without
-// a name.
+// String returns the name of the cause, for example "Magic", or "BTFCause(999)" for a number
+// without a name.
 func (c BTFCause) String() string {
 	return nameOr(capi.BTFCauseName(uint32(c)), "BTFCause", uint32(c))
 }
@@ -170,7 +170,7 @@ func (c BTFCause) Error() string {
 	return nameOr(capi.BTFCauseText(uint32(c)), "BTFCause", uint32(c))
 }
 
-// String returns the name of the cause, for example "SectionCut", or "ObjectCause(153)" for a number
+// String returns the name of the cause, for example "SectionCut", or "ObjectCause(999)" for a number
 // without a name.
 func (c ObjectCause) String() string {
 	return nameOr(capi.ObjectCauseName(uint32(c)), "ObjectCause", uint32(c))

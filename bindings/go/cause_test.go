@@ -10,29 +10,22 @@ import (
 	"bpfcanon/internal/capi"
 )
 
-// The package has the causes of the header, from the first to the last, and the library has a name and a sentence for each. A number
-// after the last is one of a newer library.
+// The package has the causes of the header from the first on, and the library has a name and a sentence for each. A number after the last
+// is one of a newer library.
 func TestCausesAreThoseOfTheHeader(t *testing.T) {
 	for _, kind := range []struct {
-		first, last bpfcanon.Cause
-		start, end  int
-		cause       func(number int) bpfcanon.Cause
-		names       [2]string
+		first      bpfcanon.Cause
+		start, end int
+		cause      func(number int) bpfcanon.Cause
+		name       string
 	}{
-		{bpfcanon.ErrInsnTruncated, bpfcanon.ErrInsnNextImm, 1, capi.InsnCauses,
-			func(n int) bpfcanon.Cause { return bpfcanon.InsnCause(n) }, [2]string{"Truncated", "NextImm"}},
-		{bpfcanon.ErrLineChar, bpfcanon.ErrLineRange, 1, capi.LineCauses,
-			func(n int) bpfcanon.Cause { return bpfcanon.LineCause(n) }, [2]string{"Char", "Range"}},
-		{bpfcanon.ErrBTFShortHeader, bpfcanon.ErrBTFComponent, 1, capi.BTFCauses,
-			func(n int) bpfcanon.Cause { return bpfcanon.BTFCause(n) }, [2]string{"ShortHeader", "Component"}},
-		{bpfcanon.ErrObjectFileTooLarge, bpfcanon.ErrObjectResultTooLarge, 101, capi.ObjectCauses,
-			func(n int) bpfcanon.Cause { return bpfcanon.ObjectCause(n) }, [2]string{"FileTooLarge", "ResultTooLarge"}},
+		{bpfcanon.ErrInsnTruncated, 1, capi.InsnCauses, func(n int) bpfcanon.Cause { return bpfcanon.InsnCause(n) }, "Truncated"},
+		{bpfcanon.ErrLineChar, 1, capi.LineCauses, func(n int) bpfcanon.Cause { return bpfcanon.LineCause(n) }, "Char"},
+		{bpfcanon.ErrBTFShortHeader, 1, capi.BTFCauses, func(n int) bpfcanon.Cause { return bpfcanon.BTFCause(n) }, "ShortHeader"},
+		{bpfcanon.ErrObjectFileTooLarge, 101, capi.ObjectCauses, func(n int) bpfcanon.Cause { return bpfcanon.ObjectCause(n) }, "FileTooLarge"},
 	} {
-		if kind.first != kind.cause(kind.start) || kind.last != kind.cause(kind.end) {
-			t.Errorf("%v to %v, and the header has %d to %d", kind.first, kind.last, kind.start, kind.end)
-		}
-		if kind.first.String() != kind.names[0] || kind.last.String() != kind.names[1] {
-			t.Errorf("%v to %v, want %v", kind.first, kind.last, kind.names)
+		if kind.first != kind.cause(kind.start) || kind.first.String() != kind.name {
+			t.Errorf("the first is %v, want %v, %s", kind.first, kind.cause(kind.start), kind.name)
 		}
 		for n := kind.start; n <= kind.end; n++ {
 			if cause := kind.cause(n); strings.Contains(cause.String(), "(") || len(cause.Error()) < 10 {

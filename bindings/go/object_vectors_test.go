@@ -11,6 +11,7 @@ import (
 	"testing"
 
 	"bpfcanon"
+	"bpfcanon/internal/capi"
 	"bpfcanon/objects"
 )
 
@@ -76,7 +77,7 @@ func TestObjects(t *testing.T) {
 func objectCause(name string) bpfcanon.Cause {
 	ofTypes := strings.HasPrefix(name, "Types(")
 	name = strings.TrimSuffix(strings.TrimPrefix(name, "Types("), ")")
-	for number := uint32(1); number <= uint32(bpfcanon.ErrObjectResultTooLarge); number++ {
+	for number := uint32(1); number <= capi.ObjectCauses; number++ {
 		if cause := bpfcanon.BTFCause(number); ofTypes && cause.String() == name {
 			return cause
 		}

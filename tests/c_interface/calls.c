@@ -5,11 +5,6 @@
 #include "checks.h"
 #include "object_file.h"
 
-_Static_assert(BPFCANON_INSN_CAUSE_MAX == BPFCANON_INSN_CAUSE_NEXT_IMM, "the last cause of instructions");
-_Static_assert(BPFCANON_LINE_CAUSE_MAX == BPFCANON_LINE_CAUSE_RANGE, "the last cause of listings");
-_Static_assert(BPFCANON_BTF_CAUSE_MAX == BPFCANON_BTF_CAUSE_COMPONENT, "the last cause of BTF");
-_Static_assert(BPFCANON_OBJECT_CAUSE_MAX == BPFCANON_OBJECT_CAUSE_RESULT_TOO_LARGE, "the last cause of object files");
-
 /* A stream in pieces of one length, with what is left kept before the next. */
 static void stream_in_pieces_of(size_t piece, const uint8_t *big, size_t len, const uint8_t *little, size_t little_len)
 {
@@ -60,31 +55,30 @@ static void objects_fit_their_room(void)
 	CHECK(!memcmp(out, file, sizeof OBJECT) && is_filled(out + sizeof OBJECT, out + sizeof out) && is_filled(key + 32, key + 33));
 }
 
-/* tools/from_causes writes the names and sentences of causes; those of the first and the last show that each call has its own. */
+/* tools/from_causes writes the names and sentences of causes; those of the first show that each call has its own. */
 static void numbers_have_names(void)
 {
 	static const struct {
 		const char *(*name)(uint32_t), *(*text)(uint32_t);
 		uint32_t first, last;
-		const char *first_name, *last_name, *first_text;
+		const char *first_name, *first_text;
 	} rows[] = {
-		{ bpfcanon_status_name, bpfcanon_status_text, BPFCANON_STATUS_DONE, BPFCANON_STATUS_ALIGNMENT, "Done", "Alignment",
+		{ bpfcanon_status_name, bpfcanon_status_text, BPFCANON_STATUS_DONE, BPFCANON_STATUS_ALIGNMENT, "Done",
 		  "the call is done, or the two inputs are the same" },
 		/* A fault of bpfcanon_insn_encode has the cause 0. */
-		{ bpfcanon_insn_cause_name, bpfcanon_insn_cause_text, 0, BPFCANON_INSN_CAUSE_MAX, "Record", "NextImm",
+		{ bpfcanon_insn_cause_name, bpfcanon_insn_cause_text, 0, BPFCANON_INSN_CAUSE_MAX, "Record",
 		  "the record is not that of an instruction" },
-		{ bpfcanon_line_cause_name, bpfcanon_line_cause_text, 1, BPFCANON_LINE_CAUSE_MAX, "Char", "Range",
+		{ bpfcanon_line_cause_name, bpfcanon_line_cause_text, 1, BPFCANON_LINE_CAUSE_MAX, "Char",
 		  "a character that is neither blank nor part of a token" },
-		{ bpfcanon_btf_cause_name, bpfcanon_btf_cause_text, 1, BPFCANON_BTF_CAUSE_MAX, "ShortHeader", "Component",
+		{ bpfcanon_btf_cause_name, bpfcanon_btf_cause_text, 1, BPFCANON_BTF_CAUSE_MAX, "ShortHeader",
 		  "the file has fewer than 24 bytes" },
 		/* Those of BTF are below it. */
 		{ bpfcanon_object_cause_name, bpfcanon_object_cause_text, BPFCANON_OBJECT_CAUSE_FILE_TOO_LARGE, BPFCANON_OBJECT_CAUSE_MAX,
-		  "FileTooLarge", "ResultTooLarge", "the file is longer than 64 MiB" },
+		  "FileTooLarge", "the file is longer than 64 MiB" },
 	};
 
 	for (size_t k = 0; k < COUNT(rows); k++) {
-		CHECK(!strcmp(rows[k].name(rows[k].first), rows[k].first_name) && !strcmp(rows[k].name(rows[k].last), rows[k].last_name));
-		CHECK(!strcmp(rows[k].text(rows[k].first), rows[k].first_text));
+		CHECK(!strcmp(rows[k].name(rows[k].first), rows[k].first_name) && !strcmp(rows[k].text(rows[k].first), rows[k].first_text));
 		for (uint32_t number = rows[k].first; number <= rows[k].last; number++)
 			CHECK(*rows[k].name(number) && *rows[k].text(number));
 		CHECK(rows[k].first == 0 || !rows[k].name(rows[k].first - 1));

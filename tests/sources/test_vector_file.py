@@ -1,5 +1,5 @@
-"""Checks testdata/vectors.tsv by itself: its rows are distinct and as many as tests/vector_rows.py says, have the fields of their kind, and
-are about all that the tables of the pages name. Each cause has a row by tests/sources/test_causes.py.
+"""Checks testdata/vectors.tsv by itself: its rows are distinct, have the fields of their kind, and are about all that the tables of the
+pages name. Each cause has a row by tests/sources/test_causes.py.
 """
 
 import re
@@ -9,7 +9,7 @@ import pytest
 from tests.commands import COMMANDS, OPTIONS
 from tests.reference import btf_page, btf_reference, insn_page, insn_reference
 from tests.reference.formats_page import said
-from tests.vector_rows import COLUMNS, ROWS, VECTORS, data, rows
+from tests.vector_rows import COLUMNS, VECTORS, data, rows
 
 LINES = VECTORS.read_text().splitlines()
 # Where a row can be told from another of its kind: all other fields may be those of other rows, the name too.
@@ -21,14 +21,14 @@ def test_form():
     """The first comment names the canonical form, and each other line is a row or a comment."""
     (form,) = said("Formats", r"\*\*The canonical form is form (\d+)\.\*\*")
     assert LINES[0].startswith(f"# Test vectors for BPF instructions (RFC 9669) and BTF, form {form}: ")
-    assert {line.partition("\t")[0] for line in LINES if line and not line.startswith("#")} == set(ROWS)
+    assert {line.partition("\t")[0] for line in LINES if line and not line.startswith("#")} == set(COLUMNS)
 
 
-@pytest.mark.parametrize("kind", ROWS)
+@pytest.mark.parametrize("kind", COLUMNS)
 def test_rows(kind):
     found, columns = rows(kind), COLUMNS[kind]
     assert all(len(row) == len(columns) and all(row) for row in found)
-    assert len(found) == ROWS[kind] == len({tuple(row[columns.index(it)] for it in OWN[kind]) for row in found})
+    assert len(found) == len({tuple(row[columns.index(it)] for it in OWN[kind]) for row in found})
 
 
 # ---- what the rows are about, each by the pages and the sources and then by the rows
