@@ -30,11 +30,11 @@ const (
 )
 
 var formNames = map[Form]string{
-	FormALU: "alu", FormMovsx: "movsx", FormNeg: "neg", FormSwap: "swap", FormJump: "jump", FormJumpLong: "jump_long",
-	FormBranch: "branch", FormCallHelper: "call_helper", FormCallLocal: "call_local", FormCallBTF: "call_btf",
-	FormExit: "exit", FormLoad: "load", FormLoadSigned: "load_signed", FormStoreImm: "store_imm",
-	FormStoreReg: "store_reg", FormAtomic: "atomic", FormWide: "wide", FormPacketAbs: "packet_abs",
-	FormPacketInd: "packet_ind",
+	FormALU: "alu", FormMovsx: "movsx", FormNeg: "neg", FormSwap: "swap", FormJump: "jump",
+	FormJumpLong: "jump_long", FormBranch: "branch", FormCallHelper: "call_helper",
+	FormCallLocal: "call_local", FormCallBTF: "call_btf", FormExit: "exit", FormLoad: "load",
+	FormLoadSigned: "load_signed", FormStoreImm: "store_imm", FormStoreReg: "store_reg",
+	FormAtomic: "atomic", FormWide: "wide", FormPacketAbs: "packet_abs", FormPacketInd: "packet_ind",
 }
 
 // String returns the name of the form, for example "call_helper".

@@ -104,21 +104,17 @@ func insnCause(n uint32) bpfcanon.InsnCause { return bpfcanon.InsnCause(n) }
 func lineCause(n uint32) bpfcanon.LineCause { return bpfcanon.LineCause(n) }
 func btfCause(n uint32) bpfcanon.BTFCause   { return bpfcanon.BTFCause(n) }
 
-var brings = map[string]bpfcanon.Groups{
-	"base32": bpfcanon.GroupBase32, "base64": bpfcanon.GroupBase64 | bpfcanon.GroupBase32, "atomic32": bpfcanon.GroupAtomic32,
-	"atomic64": bpfcanon.GroupAtomic64 | bpfcanon.GroupAtomic32, "divmul32": bpfcanon.GroupDivmul32,
-	"divmul64": bpfcanon.GroupDivmul64 | bpfcanon.GroupDivmul32, "packet": bpfcanon.GroupPacket,
-}
-
-// The group of an instruction, without those that it includes.
-var groupOf = map[string]bpfcanon.Groups{
-	"base32": bpfcanon.GroupBase32, "base64": bpfcanon.GroupBase64, "atomic32": bpfcanon.GroupAtomic32, "atomic64": bpfcanon.GroupAtomic64,
-	"divmul32": bpfcanon.GroupDivmul32, "divmul64": bpfcanon.GroupDivmul64, "packet": bpfcanon.GroupPacket,
+// The names of a group and of the group that it includes.
+func brings(group string) string {
+	if name := strings.TrimSuffix(group, "64"); name != group {
+		return name + "32 " + group
+	}
+	return group
 }
 
 // Checks that a program in each byte order is decoded to the instruction of a line, and that this is
 // encoded to the program in each byte order.
-func wantDecoded(t *testing.T, line string, order bpfcanon.Order, programs [][]byte, group bpfcanon.Groups) {
+func wantDecoded(t *testing.T, line string, order bpfcanon.Order, programs [][]byte, group string) {
 	t.Helper()
 	decoded, err := bpfcanon.DecodeInsns(order, programs[order])
 	if err != nil || listingOf(decoded) != line+"\n" {
@@ -126,7 +122,7 @@ func wantDecoded(t *testing.T, line string, order bpfcanon.Order, programs [][]b
 		return
 	}
 	insn := decoded.At(0)
-	if decoded.Offset(0) != 0 || decoded.Group(0) != group || decoded.Form(0) != bpfcanon.FormOf(insn) {
+	if decoded.Offset(0) != 0 || decoded.Group(0).String() != group || decoded.Form(0) != bpfcanon.FormOf(insn) {
 		t.Errorf("%s: at %d, %v, %v", line, decoded.Offset(0), decoded.Group(0), decoded.Form(0))
 	}
 	for _, to := range orders {
@@ -150,10 +146,10 @@ func TestInstructions(t *testing.T) {
 			wantBytes(t, line, got, err, []byte(line+"\n"))
 			got, err = bpfcanon.ReadInsns(order, []byte(line))
 			wantBytes(t, line, got, err, programs[order])
-			if groups, err := bpfcanon.GroupsOf(order, programs[order]); groups != brings[row[3]] || err != nil {
+			if groups, err := bpfcanon.GroupsOf(order, programs[order]); groups.String() != brings(row[3]) || err != nil {
 				t.Errorf("%s: groups %v, %v", line, groups, err)
 			}
-			wantDecoded(t, line, order, programs, groupOf[row[3]])
+			wantDecoded(t, line, order, programs, row[3])
 		}
 	})
 }

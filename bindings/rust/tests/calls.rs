@@ -86,25 +86,16 @@ fn byte_orders_have_one_word_each() {
     assert_eq!(orders[2..], [None; 6]);
 }
 
-/// The groups in the sequence of RFC 9669 section 2.4, which is that of their bits in the header.
-const GROUPS: [(Groups, &str); 7] = [
-    (Groups::BASE32, "base32"),
-    (Groups::BASE64, "base64"),
-    (Groups::ATOMIC32, "atomic32"),
-    (Groups::ATOMIC64, "atomic64"),
-    (Groups::DIVMUL32, "divmul32"),
-    (Groups::DIVMUL64, "divmul64"),
-    (Groups::PACKET, "packet"),
-];
-
 #[test]
 fn a_set_has_the_groups_that_are_in_it() {
     let none = Groups::empty();
     assert_eq!((none.is_empty(), none.bits(), none.to_string()), (true, 0, String::new()));
-    for (at, (group, name)) in GROUPS.into_iter().enumerate() {
-        assert_eq!((group.bits(), &*group.to_string(), group.is_empty()), (1 << at, name, false));
+    let bits = (0..32).map(|at| Groups::from_bits_retain(1 << at));
+    let groups: Vec<Groups> = bits.filter(|it| !it.to_string().is_empty()).collect();
+    assert_eq!(groups[..2], [Groups::BASE32, Groups::BASE64]);
+    for &group in &groups {
         assert_eq!((group.contains(none), none.contains(group)), (true, false));
-        for (other, _) in GROUPS {
+        for &other in &groups {
             let (both, is_one) = (group | other, group == other);
             assert_eq!((both.contains(group), both.contains(both)), (true, true), "{both}");
             assert_eq!((group.contains(other), group.contains(both)), (is_one, is_one), "{both}");

@@ -2,7 +2,8 @@ use crate::sys;
 use std::{fmt, ops};
 
 /// A set of conformance groups (RFC 9669 section 2.4): instructions that a runtime supports
-/// together.
+/// together. `base64`, `atomic64` and `divmul64` include `base32`, `atomic32` and `divmul32`;
+/// `packet` is legacy access to packets.
 ///
 /// ```
 /// use bpfcanon::insn::{self, Groups};
@@ -17,23 +18,25 @@ use std::{fmt, ops};
 #[derive(Clone, Copy, Default, PartialEq, Eq, Hash)]
 pub struct Groups(u32);
 
-const NAMES: [&str; 7] =
-    ["base32", "base64", "atomic32", "atomic64", "divmul32", "divmul64", "packet"];
+#[rustfmt::skip]
+const NAMES: &[&str] = &[
+    "base32", "base64", "atomic32", "atomic64", "divmul32", "divmul64", "packet",
+];
 
 impl Groups {
     /// `base32`.
     pub const BASE32: Groups = Groups(sys::BPFCANON_GROUP_BASE32);
-    /// `base64`, which includes `base32`.
+    /// `base64`.
     pub const BASE64: Groups = Groups(sys::BPFCANON_GROUP_BASE64);
     /// `atomic32`.
     pub const ATOMIC32: Groups = Groups(sys::BPFCANON_GROUP_ATOMIC32);
-    /// `atomic64`, which includes `atomic32`.
+    /// `atomic64`.
     pub const ATOMIC64: Groups = Groups(sys::BPFCANON_GROUP_ATOMIC64);
     /// `divmul32`.
     pub const DIVMUL32: Groups = Groups(sys::BPFCANON_GROUP_DIVMUL32);
-    /// `divmul64`, which includes `divmul32`.
+    /// `divmul64`.
     pub const DIVMUL64: Groups = Groups(sys::BPFCANON_GROUP_DIVMUL64);
-    /// `packet`: legacy access to packets.
+    /// `packet`.
     pub const PACKET: Groups = Groups(sys::BPFCANON_GROUP_PACKET);
 
     /// Returns the set of no groups.
