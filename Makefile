@@ -25,7 +25,7 @@ export PYTHONDONTWRITEBYTECODE = 1
 export RT_JOBS ?= $(WORKERS)
 $(shell mkdir -p out)
 
-.PHONY: all demo demo-proved check check-quick check-tests check-c check-release prove record release-objects lint tools install uninstall
+.PHONY: all demo demo-proved check check-quick check-tests check-c check-release prove record release-objects lint tools written install uninstall
 .PHONY: dist clean FORCE
 all: $(COMMANDS) $(LIBRARY)
 
@@ -109,6 +109,13 @@ lint:
 	! command -v rustfmt > out/found || rustfmt --edition 2021 --config-path bindings/rust --check $$(git ls-files 'bindings/rust/*.rs' 'examples/*.rs')
 	! command -v mypy > out/found || { MYPYPATH=capi mypy --strict --cache-dir=out/mypy packaging/*.py && cd bindings/python && mypy --cache-dir=$(CURDIR)/out/mypy; }
 	! command -v codespell > out/found || codespell -q 3 -L crate README.md docs examples
+
+# The files, and parts of files, that tools/ writes of others: all of it after a change of what they read.
+written:
+	tools/from_causes && tools/from_header && tools/from_mnemonics
+	tools/to_python > out/written && cp out/written bindings/python/bpfcanon/header.py
+	tools/to_rows > out/written && cp out/written crates/bpfcanon/src/tests/vectors.rt
+	tools/to_rust > out/written && cp out/written bindings/rust/src/sys.rs
 
 # --- a release
 dist:

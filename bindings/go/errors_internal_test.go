@@ -21,9 +21,9 @@ func TestErrorsOfStatuses(t *testing.T) {
 	}
 }
 
-// The library with this version has 19 forms and 19 kinds.
+// A newer library may have other forms and kinds than those from 1 on.
 func TestRecordsOfANewerLibrary(t *testing.T) {
-	for _, number := range []uint8{1, 19, 0, 20, 255} {
+	for _, number := range []uint8{1, 19, 0, 200, 255} {
 		insns := checkForms([]capi.Insn{{Form: 11}, {Form: number}})
 		types := checkKinds([]capi.BTFType{{Kind: 2}, {Kind: number}})
 		for _, err := range []error{insns, types} {

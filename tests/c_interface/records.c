@@ -92,7 +92,7 @@ static void instructions_are_encoded(void)
 	CHECK(is(bpfcanon_insn_encode(BPFCANON_ORDER_BIG, given, INSNS, out, sizeof out), written(sizeof program)));
 	CHECK(is(bpfcanon_insn_decode(BPFCANON_ORDER_BIG, out, sizeof program, other, INSNS), written(INSNS)));
 	CHECK(!memcmp(other, insns, sizeof insns));
-	given[2].form = 20;
+	given[2].form = 200;
 	CHECK(is(bpfcanon_insn_encode(BPFCANON_ORDER_LITTLE, given, INSNS, out, sizeof out), fault(0, 2)));
 }
 

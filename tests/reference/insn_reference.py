@@ -115,6 +115,12 @@ def templates():
     return found
 
 
+@functools.cache
+def last_mnemonics():
+    """The last mnemonic of each row, which is the only one of most rows."""
+    return {name: word for word, (name, _) in templates().items()}
+
+
 def mnemonic_of(form):
     """The mnemonic of a form. test_formats.py checks this rule against the page."""
     letter = SIZE_LETTERS.get(form.operation, "")
@@ -127,10 +133,6 @@ def mnemonic_of(form):
         "Jump": "ja",
         "JumpLong": "ja32",
         "Branch": f"j{form.operation.lower()}{suffix}",
-        "CallHelper": "call",
-        "CallLocal": "call_local",
-        "CallBtf": "call_btf",
-        "Exit": "exit",
         "Load": f"ldx{letter}",
         "LoadSigned": f"ldxs{letter}",
         "StoreImm": f"st{letter}",
@@ -144,7 +146,7 @@ def mnemonic_of(form):
     if form.name == "Atomic":
         word = form.operation if form.operation.startswith(("fetch", "xchg", "cmpxchg")) else f"atomic_{form.operation}"
         return word + suffix
-    return of_name[form.name]
+    return of_name.get(form.name) or last_mnemonics()[form.name]
 
 
 def line_of(form, insn):

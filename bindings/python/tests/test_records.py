@@ -50,12 +50,12 @@ class Layout(unittest.TestCase):
 class Newer(unittest.TestCase):
     def test_a_record_of_a_newer_library_is_named(self) -> None:
         insn = header.InsnRecord._make([0] * len(records.INSN_FIELDS))._replace(form=1, bits=64, len=8)
-        for change in {"form": 20}, {"form": 0}, {"op": 8}, {"bits": 128}, {"form": 17, "op": 7}:
+        for change in {"form": 200}, {"form": 0}, {"op": 8}, {"bits": 128}, {"form": 17, "op": 7}:
             with self.assertRaises(UnknownRecordError) as raised:
                 insn_records.insn_of(insn._replace(**change))
             self.assertEqual(raised.exception.args, (insn._replace(**change),))
         blank = header.TypeRecord._make([0] * len(records.TYPE_FIELDS))
-        for change in {"kind": 20}, {"kind": 1, "encoding": 3}, {"kind": 12, "linkage": 3}:
+        for change in {"kind": 200}, {"kind": 1, "encoding": 3}, {"kind": 12, "linkage": 3}:
             with self.assertRaises(UnknownRecordError):
                 type_records.type_of(type_records.File(b"", memoryview(b"")), blank._replace(**change))
 
