@@ -32,14 +32,31 @@ type Entry struct {
 	Offset, Size uint32
 }
 
+// itemArrays are arrays of items that no type has yet. To allocate some for many types at once takes
+// half the time.
+type itemArrays struct {
+	least   int // how many are allocated at once
+	members []Member
+	values  []EnumValue
+	params  []Param
+	entries []Entry
+}
+
 // itemsOf returns the items of a type, each made of its record and its name, and nil without items.
-func itemsOf[T any](b *BTF, r *capi.BTFType, itemOf func(it *capi.BTFItem, name string) T) []T {
-	if r.Items == 0 {
+// They are from an array that has space for them, or from a new one.
+func itemsOf[T any](b *BTF, r *capi.BTFType, least int, array *[]T, itemOf func(it *capi.BTFItem, name string) T) []T {
+	count := int(r.Items)
+	if count == 0 {
 		return nil
 	}
-	records := b.items[r.First : r.First+uint32(r.Items)]
-	items := make([]T, len(records))
-	for i := range records {
+	if len(*array) < count {
+		*array = make([]T, least+count)
+	}
+	// An append to the items of a type must not write to those of the next one.
+	items := (*array)[:count:count]
+	*array = (*array)[count:]
+	records := b.items[r.First:]
+	for i := range items {
 		it := &records[i]
 		items[i] = itemOf(it, b.text[it.Name:it.Name+it.NameLen])
 	}

@@ -12,8 +12,8 @@ func checkKinds(records []capi.BTFType) error {
 	return nil
 }
 
-// typeOf returns the type that a decoded record says. Its kind is a known one.
-func (b *BTF) typeOf(r *capi.BTFType) Type {
+// typeOf returns the type that a decoded record says, with items from arrays. Its kind is a known one.
+func (b *BTF) typeOf(r *capi.BTFType, arrays *itemArrays) Type {
 	target := ID(r.Target)
 	switch Kind(r.Kind) {
 	case KindPtr:
@@ -27,27 +27,27 @@ func (b *BTF) typeOf(r *capi.BTFType) Type {
 	case KindRestrict:
 		return Restrict{target}
 	case KindFuncProto:
-		return FuncProto{target, itemsOf(b, r, paramOf)}
+		return FuncProto{target, itemsOf(b, r, arrays.least, &arrays.params, paramOf)}
 	}
-	return b.namedOf(r)
+	return b.namedOf(r, arrays)
 }
 
 // namedOf returns the type that the record of a kind with a name says.
-func (b *BTF) namedOf(r *capi.BTFType) Type {
+func (b *BTF) namedOf(r *capi.BTFType, arrays *itemArrays) Type {
 	name, target, flag, linkage := b.nameOf(r), ID(r.Target), r.Flag == 1, Linkage(r.Linkage)
 	switch Kind(r.Kind) {
 	case KindInt:
 		return Int{name, r.Size, Encoding(r.Encoding), r.BitOffset, r.Bits}
 	case KindStruct:
-		return Struct{name, r.Size, itemsOf(b, r, memberOf)}
+		return Struct{name, r.Size, itemsOf(b, r, arrays.least, &arrays.members, memberOf)}
 	case KindUnion:
-		return Union{name, r.Size, itemsOf(b, r, memberOf)}
+		return Union{name, r.Size, itemsOf(b, r, arrays.least, &arrays.members, memberOf)}
 	case KindEnum:
 		valueOf := enumValueOf
 		if flag {
 			valueOf = signedValueOf
 		}
-		return Enum{name, flag, r.Size, itemsOf(b, r, valueOf)}
+		return Enum{name, flag, r.Size, itemsOf(b, r, arrays.least, &arrays.values, valueOf)}
 	case KindFwd:
 		return Fwd{name, flag}
 	case KindTypedef:
@@ -57,7 +57,7 @@ func (b *BTF) namedOf(r *capi.BTFType) Type {
 	case KindVar:
 		return Var{name, target, linkage}
 	case KindDatasec:
-		return Datasec{name, r.Size, itemsOf(b, r, entryOf)}
+		return Datasec{name, r.Size, itemsOf(b, r, arrays.least, &arrays.entries, entryOf)}
 	case KindFloat:
 		return Float{name, r.Size}
 	case KindDeclTag:
@@ -65,5 +65,5 @@ func (b *BTF) namedOf(r *capi.BTFType) Type {
 	case KindTypeTag:
 		return TypeTag{name, flag, target}
 	}
-	return Enum64{name, flag, r.Size, itemsOf(b, r, enumValueOf)}
+	return Enum64{name, flag, r.Size, itemsOf(b, r, arrays.least, &arrays.values, enumValueOf)}
 }

@@ -22,7 +22,11 @@ var refused = capi.BTFType{Kind: uint8(KindPtr), Size: 1}
 
 // recordsOf returns the records of types.
 func recordsOf(types []Type) *btfRecords {
-	b := &btfRecords{types: make([]capi.BTFType, len(types)), offsets: make(map[string]uint32, len(types))}
+	b := &btfRecords{
+		// About as many items and names as the types of a kernel have.
+		make([]capi.BTFType, len(types)), make([]capi.BTFItem, 0, 2*len(types)),
+		make([]byte, 0, 16*len(types)), make(map[string]uint32, len(types)),
+	}
 	for i, it := range types {
 		b.types[i] = b.record(it)
 	}
@@ -33,39 +37,38 @@ func recordsOf(types []Type) *btfRecords {
 func (b *btfRecords) record(it Type) capi.BTFType {
 	switch it := it.(type) {
 	case Int:
-		r := b.sized(KindInt, it.Name, it.Size)
+		r := b.named(it.Name, capi.BTFType{Kind: uint8(KindInt), Size: it.Size})
 		r.Encoding, r.BitOffset, r.Bits = uint8(it.Encoding), it.BitOffset, it.Bits
 		return r
 	case Ptr:
-		return b.reference(KindPtr, "", it.Target)
+		return capi.BTFType{Kind: uint8(KindPtr), Target: uint32(it.Target)}
 	case Array:
-		r := b.reference(KindArray, "", it.Target)
-		r.IndexType, r.Elements = uint32(it.Index), it.Count
-		return r
+		return capi.BTFType{Kind: uint8(KindArray), Target: uint32(it.Target), IndexType: uint32(it.Index), Elements: it.Count}
 	case Fwd:
-		return flagged(b.sized(KindFwd, it.Name, 0), it.IsUnion)
+		return b.named(it.Name, capi.BTFType{Kind: uint8(KindFwd), Flag: flagOf(it.IsUnion)})
 	case Typedef:
-		return b.reference(KindTypedef, it.Name, it.Target)
+		return b.named(it.Name, capi.BTFType{Kind: uint8(KindTypedef), Target: uint32(it.Target)})
 	case Volatile:
-		return b.reference(KindVolatile, "", it.Target)
+		return capi.BTFType{Kind: uint8(KindVolatile), Target: uint32(it.Target)}
 	case Const:
-		return b.reference(KindConst, "", it.Target)
+		return capi.BTFType{Kind: uint8(KindConst), Target: uint32(it.Target)}
 	case Restrict:
-		return b.reference(KindRestrict, "", it.Target)
+		return capi.BTFType{Kind: uint8(KindRestrict), Target: uint32(it.Target)}
 	case Func:
-		r := b.reference(KindFunc, it.Name, it.Target)
-		r.Linkage = uint8(it.Linkage)
-		return r
+		return b.named(it.Name, capi.BTFType{Kind: uint8(KindFunc), Target: uint32(it.Target), Linkage: uint8(it.Linkage)})
 	case Var:
-		r := b.reference(KindVar, it.Name, it.Target)
-		r.Linkage = uint8(it.Linkage)
-		return r
+		return b.named(it.Name, capi.BTFType{Kind: uint8(KindVar), Target: uint32(it.Target), Linkage: uint8(it.Linkage)})
 	case Float:
-		return b.sized(KindFloat, it.Name, it.Size)
+		return b.named(it.Name, capi.BTFType{Kind: uint8(KindFloat), Size: it.Size})
 	case DeclTag:
-		return b.declTag(it)
+		if it.Component < WholeType || it.Component > math.MaxInt32 {
+			return refused
+		}
+		r := b.named(it.Name, capi.BTFType{Kind: uint8(KindDeclTag), Flag: flagOf(it.Flag), Target: uint32(it.Target)})
+		r.Component = int32(it.Component)
+		return r
 	case TypeTag:
-		return flagged(b.reference(KindTypeTag, it.Name, it.Target), it.Flag)
+		return b.named(it.Name, capi.BTFType{Kind: uint8(KindTypeTag), Flag: flagOf(it.Flag), Target: uint32(it.Target)})
 	}
 	return b.withItems(it)
 }
@@ -74,64 +77,51 @@ func (b *btfRecords) record(it Type) capi.BTFType {
 func (b *btfRecords) withItems(it Type) capi.BTFType {
 	switch it := it.(type) {
 	case Struct:
-		return addItems(b, b.sized(KindStruct, it.Name, it.Size), it.Members, b.member)
+		return addItems(b, it.Name, capi.BTFType{Kind: uint8(KindStruct), Size: it.Size}, it.Members, b.member)
 	case Union:
-		return addItems(b, b.sized(KindUnion, it.Name, it.Size), it.Members, b.member)
+		return addItems(b, it.Name, capi.BTFType{Kind: uint8(KindUnion), Size: it.Size}, it.Members, b.member)
 	case Enum:
 		value := b.value
 		if it.Signed {
 			value = b.signedValue
 		}
-		return addItems(b, flagged(b.sized(KindEnum, it.Name, it.Size), it.Signed), it.Values, value)
+		return addItems(b, it.Name, capi.BTFType{Kind: uint8(KindEnum), Flag: flagOf(it.Signed), Size: it.Size}, it.Values, value)
 	case FuncProto:
-		return addItems(b, b.reference(KindFuncProto, "", it.Target), it.Params, b.param)
+		return addItems(b, "", capi.BTFType{Kind: uint8(KindFuncProto), Target: uint32(it.Target)}, it.Params, b.param)
 	case Datasec:
-		return addItems(b, b.sized(KindDatasec, it.Name, it.Size), it.Entries, b.entry)
+		return addItems(b, it.Name, capi.BTFType{Kind: uint8(KindDatasec), Size: it.Size}, it.Entries, b.entry)
 	case Enum64:
-		return addItems(b, flagged(b.sized(KindEnum64, it.Name, it.Size), it.Signed), it.Values, b.value64)
+		return addItems(b, it.Name, capi.BTFType{Kind: uint8(KindEnum64), Flag: flagOf(it.Signed), Size: it.Size}, it.Values, b.value64)
 	}
 	return refused
 }
 
-func (b *btfRecords) sized(kind Kind, name string, size uint32) capi.BTFType {
-	offset, length := b.name(name)
-	return capi.BTFType{Kind: uint8(kind), Name: offset, NameLen: length, Size: size}
+// named returns the record with a name.
+func (b *btfRecords) named(name string, r capi.BTFType) capi.BTFType {
+	r.Name, r.NameLen = b.name(name)
+	return r
 }
 
-func (b *btfRecords) reference(kind Kind, name string, target ID) capi.BTFType {
-	offset, length := b.name(name)
-	return capi.BTFType{Kind: uint8(kind), Name: offset, NameLen: length, Target: uint32(target)}
-}
-
-func flagged(r capi.BTFType, flag bool) capi.BTFType {
+func flagOf(flag bool) uint8 {
 	if flag {
-		r.Flag = 1
+		return 1
 	}
-	return r
-}
-
-func (b *btfRecords) declTag(it DeclTag) capi.BTFType {
-	if it.Component < WholeType || it.Component > math.MaxInt32 {
-		return refused
-	}
-	r := flagged(b.reference(KindDeclTag, it.Name, it.Target), it.Flag)
-	r.Component = int32(it.Component)
-	return r
+	return 0
 }
 
 // addItems adds the records of the items of a type, and returns the record of the type with them.
-func addItems[T any](b *btfRecords, r capi.BTFType, items []T, record func(it T) capi.BTFItem) capi.BTFType {
+func addItems[T any](b *btfRecords, name string, r capi.BTFType, items []T, record func(it *T) capi.BTFItem) capi.BTFType {
 	if len(items) > math.MaxUint16 || len(b.items) > math.MaxUint32-math.MaxUint16 {
 		return refused
 	}
 	r.First, r.Items = uint32(len(b.items)), uint16(len(items))
-	for _, it := range items {
-		b.items = append(b.items, record(it))
+	for i := range items {
+		b.items = append(b.items, record(&items[i]))
 	}
-	return r
+	return b.named(name, r)
 }
 
-func (b *btfRecords) member(it Member) capi.BTFItem {
+func (b *btfRecords) member(it *Member) capi.BTFItem {
 	offset, length := b.name(it.Name)
 	return capi.BTFItem{
 		Kind: C.BPFCANON_BTF_ITEM_KIND_MEMBER, Name: offset, NameLen: length, Target: uint32(it.Target),
@@ -139,13 +129,13 @@ func (b *btfRecords) member(it Member) capi.BTFItem {
 	}
 }
 
-func (b *btfRecords) value(it EnumValue) capi.BTFItem {
+func (b *btfRecords) value(it *EnumValue) capi.BTFItem {
 	offset, length := b.name(it.Name)
 	return capi.BTFItem{Kind: C.BPFCANON_BTF_ITEM_KIND_ENUM_VALUE, Name: offset, NameLen: length, Value: it.Value}
 }
 
 // signedValue keeps a value that isn't one of 32 bits, for which the library refuses it.
-func (b *btfRecords) signedValue(it EnumValue) capi.BTFItem {
+func (b *btfRecords) signedValue(it *EnumValue) capi.BTFItem {
 	r := b.value(it)
 	if it.Value == uint64(int32(it.Value)) {
 		r.Value = uint64(uint32(it.Value))
@@ -155,18 +145,18 @@ func (b *btfRecords) signedValue(it EnumValue) capi.BTFItem {
 	return r
 }
 
-func (b *btfRecords) value64(it EnumValue) capi.BTFItem {
+func (b *btfRecords) value64(it *EnumValue) capi.BTFItem {
 	r := b.value(it)
 	r.Kind = C.BPFCANON_BTF_ITEM_KIND_ENUM64_VALUE
 	return r
 }
 
-func (b *btfRecords) param(it Param) capi.BTFItem {
+func (b *btfRecords) param(it *Param) capi.BTFItem {
 	offset, length := b.name(it.Name)
 	return capi.BTFItem{Kind: C.BPFCANON_BTF_ITEM_KIND_PARAM, Name: offset, NameLen: length, Target: uint32(it.Target)}
 }
 
-func (b *btfRecords) entry(it Entry) capi.BTFItem {
+func (b *btfRecords) entry(it *Entry) capi.BTFItem {
 	return capi.BTFItem{Kind: C.BPFCANON_BTF_ITEM_KIND_ENTRY, Target: uint32(it.Target), Offset: it.Offset, Size: it.Size}
 }
 

@@ -110,14 +110,14 @@ func (b *BTF) Type(id ID) (Type, error) {
 	case r == nil:
 		return Void{}, nil
 	}
-	return b.typeOf(r), nil
+	return b.typeOf(r, &itemArrays{}), nil
 }
 
 // Types returns the types with the IDs 1 to Len, for example to change some of them and encode all.
 func (b *BTF) Types() []Type {
-	types := make([]Type, len(b.types))
+	types, arrays := make([]Type, len(b.types)), itemArrays{least: 1000}
 	for i := range types {
-		types[i] = b.typeOf(&b.types[i])
+		types[i] = b.typeOf(&b.types[i], &arrays)
 	}
 	return types
 }
