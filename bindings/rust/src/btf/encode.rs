@@ -5,7 +5,8 @@ use crate::records::TypeRecord;
 use crate::sys::*;
 use crate::{call, Order};
 use std::borrow::Borrow;
-use std::collections::{HashMap, TryReserveError};
+use std::collections::hash_map::{Entry, HashMap};
+use std::collections::TryReserveError;
 use std::fmt;
 use std::num::TryFromIntError;
 
@@ -184,12 +185,11 @@ impl<'a> Records<'a> {
             return Ok((0, 0));
         }
         let len = u32::try_from(name.len())?;
-        if let Some(offset) = self.offsets.get(name) {
-            return Ok((*offset, len));
-        }
-        let offset = u32::try_from(self.strings.len())?;
         self.offsets.try_reserve(1)?;
-        self.offsets.insert(name, offset);
+        let offset = match self.offsets.entry(name) {
+            Entry::Occupied(known) => return Ok((*known.get(), len)),
+            Entry::Vacant(new) => *new.insert(u32::try_from(self.strings.len())?),
+        };
         self.strings.try_reserve(name.len() + 1)?;
         self.strings.extend(name.as_bytes());
         self.strings.push(0);

@@ -63,13 +63,10 @@ impl<'a> Btf<'a> {
 
     /// Returns the type with this ID, which is [`Type::Void`] for 0; none if there is no such type.
     pub fn get(&self, id: TypeId) -> Option<Type<'a>> {
-        if id == TypeId::VOID {
-            return Some(Type::Void);
+        match id {
+            TypeId::VOID => Some(Type::Void),
+            _ => self.typed(self.record(id)?),
         }
-        let (record, names) = (self.record(id)?, self.names);
-        let first = record.first as usize;
-        let records = self.items.get(first..first + usize::from(record.items))?;
-        record.typed(names.get(record.name, record.name_len), Items { records, names })
     }
 
     /// Returns the name of the type with this ID, which is empty if it has none, as void; none if
@@ -116,8 +113,13 @@ impl<'a> Btf<'a> {
 
     /// The type with this index among the records, and its ID.
     fn entry(&self, index: usize) -> Option<(TypeId, Type<'a>)> {
-        let id = TypeId(index as u32 + 1);
-        Some((id, self.get(id)?))
+        Some((TypeId(index as u32 + 1), self.typed(&self.types.get(index)?.0)?))
+    }
+
+    fn typed(&self, record: &bpfcanon_btf_type) -> Option<Type<'a>> {
+        let (names, first) = (self.names, record.first as usize);
+        let records = self.items.get(first..first + usize::from(record.items))?;
+        record.typed(names.get(record.name, record.name_len), Items { records, names })
     }
 }
 
