@@ -12,50 +12,52 @@ from typing import Any, Callable, Iterable, Optional, Sequence, TypeVar
 from . import types as btf
 from .causes import cause_of
 from .errors import EncodeBtfError, check
-from .header import ITEM, TYPE, BtfCause, Encoding, ItemKind, Kind, Linkage, Order, Status
+from .header import ITEM, BtfCause, Encoding, ItemKind, Kind, Linkage, Order, Status
 from .insn_encoding import value_of
 from .records import encode_types
+from .type_records import Items, member, param
 from .types import Entry, EnumValue, Member, Param, Type
 
 T = TypeVar("T")
 MOST_ITEMS = 0xFFFF
 # Numbers, since a member of an enum takes longer to find.
 MEMBER, PARAM, ENTRY = int(ItemKind.MEMBER), int(ItemKind.PARAM), int(ItemKind.ENTRY)
-pack_item, pack_type = ITEM.pack, TYPE.pack
-# Where a name is in the strings, and its length in bytes. If that is 0, the library doesn't read where it is.
-Name = tuple[int, int]
-NO_NAME = (0, 0)
+# Where a name is in the strings, and its length in bytes, as both are in records. If the length is 0, the library doesn't read where.
+NAME = struct.Struct("=II")
+NO_NAME = NAME.pack(0, 0)
+# The layouts of TYPE and ITEM, with a name in one piece, and an item in two.
+pack_type = struct.Struct("=BBBBBBH8sIIIIiI").pack
+pack_item = struct.Struct("=8sIIIIIIQ").pack
+DECODED_ITEM = struct.Struct("=II32s")
 # Where the items of a type are, and how many.
 Range = tuple[int, int]
 NO_ITEMS = (0, 0)
 
 
 def record(
-    kind: int, name: Name = NO_NAME, size: int = 0, target: int = 0, items: Range = NO_ITEMS, flag: int = 0, linkage: int = 0,
+    kind: int, name: bytes = NO_NAME, size: int = 0, target: int = 0, items: Range = NO_ITEMS, flag: int = 0, linkage: int = 0,
     integer: tuple[int, int, int] = (0, 0, 0), array: tuple[int, int] = (0, 0), component: int = 0,
 ) -> bytes:  # fmt: skip
     """Return the record of a type. Raises struct.error for a number that its field can't hold."""
     encoding, bit_offset, bits = integer
-    return pack_type(kind, flag, encoding, linkage, bit_offset, bits, items[1], *name, size, target, *array, component, items[0])
+    return pack_type(kind, flag, encoding, linkage, bit_offset, bits, items[1], name, size, target, *array, component, items[0])
 
 
 # A PTR has no size.
 REFUSED = record(Kind.PTR, size=1)
 
 
-class Names(dict[str, Name]):
+class Names(dict[str, bytes]):
     """Where each name is in the strings, to which one that is new is added."""
 
     def __init__(self) -> None:
         super().__init__({"": NO_NAME})
         self.strings = bytearray()
 
-    def __missing__(self, name: str) -> Name:
-        if not isinstance(name, str):
-            raise TypeError(f"the name {name!r} isn't a str")
-        # The library refuses a surrogate, which isn't UTF-8.
-        encoded = name.encode("utf-8", "surrogatepass")
-        found = self[name] = len(self.strings), len(encoded)
+    def __missing__(self, name: str) -> bytes:
+        # The library refuses a surrogate, which isn't UTF-8. Anything but a str raises TypeError.
+        encoded = str.encode(name, "utf-8", "surrogatepass")
+        found = self[name] = NAME.pack(len(self.strings), len(encoded))
         self.strings += encoded + b"\0"
         return found
 
@@ -81,31 +83,39 @@ class Records:
         self.items += b"".join(records)
         return first, len(records)
 
+    def _add_decoded(self, given: Items[Any]) -> Range:
+        """Add records that the library has decoded: only their names are elsewhere."""
+        names, file = self.names, given._names
+        return self._add([names[file[at : at + size].decode()] + rest for at, size, rest in DECODED_ITEM.iter_unpack(given._records)])
+
     def members(self, given: Sequence[Member]) -> Range:
+        if isinstance(given, Items) and given._make is member:
+            return self._add_decoded(given)
         names, found = self.names, all_of(Member, given)
-        return self._add([pack_item(*names[it.name], it.target, it.bit_offset, it.width, 0, 0, MEMBER, 0) for it in found])
+        return self._add([pack_item(names[it.name], it.target, it.bit_offset, it.width, 0, 0, MEMBER, 0) for it in found])
 
     def values(self, given: Sequence[EnumValue], kind: int, bits: int, is_signed: bool) -> Range:
         names, found, mask = self.names, all_of(EnumValue, given), (1 << bits) - 1
         least = -(1 << bits - 1) if is_signed else 0
         if not all(0 <= it.value - least <= mask for it in found):
             raise ValueError(f"a value doesn't fit into {bits} bits")
-        return self._add([pack_item(*names[it.name], 0, 0, 0, 0, 0, kind, it.value & mask) for it in found])
+        return self._add([pack_item(names[it.name], 0, 0, 0, 0, 0, kind, it.value & mask) for it in found])
 
     def params(self, given: Sequence[Param]) -> Range:
+        if isinstance(given, Items) and given._make is param:
+            return self._add_decoded(given)
         names = self.names
-        return self._add([pack_item(*names[it.name], it.target, 0, 0, 0, 0, PARAM, 0) for it in all_of(Param, given)])
+        return self._add([pack_item(names[it.name], it.target, 0, 0, 0, 0, PARAM, 0) for it in all_of(Param, given)])
 
     def entries(self, given: Sequence[Entry]) -> Range:
-        return self._add([pack_item(0, 0, it.target, 0, 0, it.offset, it.size, ENTRY, 0) for it in all_of(Entry, given)])
+        return self._add([pack_item(NO_NAME, it.target, 0, 0, it.offset, it.size, ENTRY, 0) for it in all_of(Entry, given)])
 
 
 def all_of(kind: type[T], given: Sequence[T]) -> tuple[T, ...]:
     """Return items. Raises TypeError if one is of another class."""
     found = tuple(given)
-    for it in found:
-        if type(it) is not kind:
-            raise TypeError(f"{it!r} isn't of the class {kind.__name__}")
+    if not {kind}.issuperset(map(type, found)):
+        raise TypeError(f"an item isn't of the class {kind.__name__}")
     return found
 
 
