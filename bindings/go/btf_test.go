@@ -9,20 +9,6 @@ import (
 	"bpfcanon"
 )
 
-func TestCompiledTypesHaveOneForm(t *testing.T) {
-	little, big := load(t, "flow_table.little.btf"), load(t, "flow_table.big.btf")
-	for _, to := range orders {
-		first, err := bpfcanon.CanonBTF(to, little)
-		second, other := bpfcanon.CanonBTF(to, big)
-		if err != nil || other != nil || len(first) == 0 || !bytes.Equal(first, second) {
-			t.Errorf("to %v: %x, %v and %x, %v", to, first, err, second, other)
-		}
-	}
-	if same, err := bpfcanon.SameBTF(little, big); !same || err != nil {
-		t.Errorf("compared: %v, %v", same, err)
-	}
-}
-
 // A struct whose members share one name: the listing is much longer than the types.
 func TestListingLongerThanTheFirstBuffer(t *testing.T) {
 	const members, length = 100, 500

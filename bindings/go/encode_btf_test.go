@@ -51,10 +51,12 @@ var writtenTypes = []struct {
 	{bpfcanon.TypeTag{Name: "a", Flag: true, Target: 1}, []uint32{1, info(18, 0, 1), 1}},
 	{bpfcanon.Enum64{Name: "a", Signed: true, Size: 8, Values: []bpfcanon.EnumValue{{Name: "bc", Value: 1<<63 + 2}}},
 		[]uint32{1, info(19, 1, 1), 8, 3, 2, 0x80000000}},
+	{bpfcanon.Enum64{Name: "a", Size: 8, Values: []bpfcanon.EnumValue{{Name: "bc", Value: 1<<63 + 2}}},
+		[]uint32{1, info(19, 1, 0), 8, 3, 2, 0x80000000}},
 	{bpfcanon.Struct{}, []uint32{0, info(4, 0, 0), 0}},
 }
 
-func TestTypesAreEncoded(t *testing.T) {
+func TestTypesAreEncodedAndDecoded(t *testing.T) {
 	var types []bpfcanon.Type
 	var words []uint32
 	for _, row := range writtenTypes {
@@ -67,8 +69,9 @@ func TestTypesAreEncoded(t *testing.T) {
 		}
 		got, err := bpfcanon.EncodeBTF(to, types)
 		wantBytes(t, "encoded", got, err, want)
-		got, err = bpfcanon.EncodeBTF(to, decode(t, got).Types())
-		wantBytes(t, "decoded and encoded", got, err, want)
+		if decoded := decode(t, want).Types(); !reflect.DeepEqual(decoded, types) {
+			t.Errorf("%#v, want %#v", decoded, types)
+		}
 	}
 }
 

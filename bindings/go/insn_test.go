@@ -22,22 +22,3 @@ func TestNoInstructionsAndComments(t *testing.T) {
 	got, err = bpfcanon.ReadInsns(bpfcanon.Little, []byte("; a comment\n\n\texit # and another"))
 	wantBytes(t, "a listing with comments", got, err, unhex(t, insns[5].little))
 }
-
-func TestCompiledProgramsHaveOneForm(t *testing.T) {
-	for _, name := range []string{"packet_filter", "hash_words"} {
-		little, big := load(t, name+".little.bin"), load(t, name+".big.bin")
-		got, err := bpfcanon.CanonInsns(bpfcanon.Big, bpfcanon.Little, big)
-		wantBytes(t, name+", big to little", got, err, little)
-		got, err = bpfcanon.CanonInsns(bpfcanon.Little, bpfcanon.Big, little)
-		wantBytes(t, name+", little to big", got, err, big)
-		listing, err := bpfcanon.ShowInsns(bpfcanon.Big, big)
-		if err != nil {
-			t.Fatal(err)
-		}
-		got, err = bpfcanon.ReadInsns(bpfcanon.Little, listing)
-		wantBytes(t, name+", listed and read", got, err, little)
-		if same, err := bpfcanon.SameInsns(bpfcanon.Big, big, bpfcanon.Little, little); !same || err != nil {
-			t.Errorf("%s: compared %v, %v", name, same, err)
-		}
-	}
-}

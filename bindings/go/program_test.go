@@ -3,7 +3,6 @@ package bpfcanon_test
 import (
 	"bytes"
 	"reflect"
-	"strings"
 	"testing"
 
 	"bpfcanon"
@@ -54,25 +53,6 @@ func TestNoInstructions(t *testing.T) {
 	}
 	got, err := bpfcanon.EncodeInsns(bpfcanon.Big, nil)
 	wantBytes(t, "none encoded", got, err, nil)
-}
-
-// The compiled programs, whose listings are written by the library.
-func TestCompiledProgramsAreDecoded(t *testing.T) {
-	for _, name := range []string{"packet_filter.little.bin", "packet_filter.big.bin", "hash_words.little.bin", "hash_words.big.bin"} {
-		order := bpfcanon.Little
-		if strings.Contains(name, "big") {
-			order = bpfcanon.Big
-		}
-		file := load(t, name)
-		program, err := bpfcanon.DecodeInsns(order, file)
-		if err != nil {
-			t.Fatal(name, err)
-		}
-		want, err := bpfcanon.ShowInsns(order, file)
-		wantBytes(t, name, []byte(listingOf(program)), err, want)
-		got, err := bpfcanon.EncodeInsns(order, program.Insns())
-		wantBytes(t, name, got, err, file)
-	}
 }
 
 // The records are the program's own: a later change of the input doesn't change it.

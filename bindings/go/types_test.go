@@ -41,55 +41,10 @@ func must[T any](value T, err error) T {
 	return value
 }
 
-func TestTypesByHand(t *testing.T) {
-	for _, order := range []binary.ByteOrder{binary.LittleEndian, binary.BigEndian} {
-		b := decode(t, btf(order, words, ownStrings))
-		if b.Len() != 3 || must(b.Type(0)) != (bpfcanon.Void{}) || must(b.Kind(0)) != bpfcanon.KindVoid || must(b.Name(0)) != "" {
-			t.Errorf("%d types, void %v", b.Len(), must(b.Type(0)))
-		}
-		if got, want := must(b.Type(1)), (bpfcanon.Int{Name: "int", Size: 4, Encoding: bpfcanon.EncodingSigned, Bits: 32}); got != want {
-			t.Errorf("%v, want %v", got, want)
-		}
-		it, ok := must(b.Type(2)).(bpfcanon.Struct)
-		if !ok || it.Name != "s" || it.Size != 4 || len(it.Members) != 1 {
-			t.Fatalf("%v", must(b.Type(2)))
-		}
-		if got, want := it.Members[0], (bpfcanon.Member{Name: "int", Target: 1, BitOffset: 5, Width: 3}); got != want {
-			t.Errorf("%v, want %v", got, want)
-		}
-		proto, ok := must(b.Type(3)).(bpfcanon.FuncProto)
-		if !ok || proto.Target != 1 || len(proto.Params) != 2 {
-			t.Fatalf("%v", must(b.Type(3)))
-		}
-		if proto.Params[0] != (bpfcanon.Param{Name: "s", Target: 2}) || proto.Params[1] != (bpfcanon.Param{}) {
-			t.Errorf("%v, %v", proto.Params[0], proto.Params[1])
-		}
-	}
-}
-
-// The compiled types, whose listing is written by the library.
-func TestCompiledTypesAreDecoded(t *testing.T) {
-	for _, name := range []string{"flow_table.little.btf", "flow_table.big.btf"} {
-		want, err := bpfcanon.ShowBTF(load(t, name))
-		wantBytes(t, name, []byte(typeListingOf(decode(t, load(t, name)))), err, want)
-	}
-}
-
-func TestValuesHaveTheSignOfTheirEnum(t *testing.T) {
-	b := decode(t, btf(binary.LittleEndian, []uint32{
-		0, info(bpfcanon.KindEnum, 1, 1), 4, 1, math.MaxUint32,
-		0, info(bpfcanon.KindEnum, 1, 0), 4, 1, math.MaxUint32,
-		0, info(bpfcanon.KindEnum64, 1, 1), 8, 1, 0xfffffffe, math.MaxUint32,
-		0, info(bpfcanon.KindEnum64, 1, 0), 8, 1, 1, 0x80000000,
-	}, ownStrings))
-	for id, want := range map[bpfcanon.ID]uint64{1: math.MaxUint64, 2: math.MaxUint32} {
-		if got := must(b.Type(id)).(bpfcanon.Enum).Values[0]; got != (bpfcanon.EnumValue{Name: "int", Value: want}) {
-			t.Errorf("type %d: %v, want %d", id, got, want)
-		}
-	}
-	signed, unsigned := must(b.Type(3)).(bpfcanon.Enum64), must(b.Type(4)).(bpfcanon.Enum64)
-	if !signed.Signed || int64(signed.Values[0].Value) != -2 || unsigned.Signed || unsigned.Values[0].Value != 1<<63+1 {
-		t.Errorf("%v, %v", signed.Values[0], unsigned.Values[0])
+func TestVoidHasTheIDZero(t *testing.T) {
+	b := decode(t, btf(binary.BigEndian, words, ownStrings))
+	if b.Len() != 3 || must(b.Type(0)) != (bpfcanon.Void{}) || must(b.Kind(0)) != bpfcanon.KindVoid || must(b.Name(0)) != "" {
+		t.Errorf("%d types, void %v", b.Len(), must(b.Type(0)))
 	}
 }
 

@@ -19,15 +19,6 @@ class Instructions(unittest.TestCase):
         self.assertEqual(bpfcanon.insn_canon(little), little)
         self.assertEqual(bpfcanon.insn_read("mov r1, r2"), little)
 
-    def test_compiled_programs_have_one_form(self) -> None:
-        for name in "packet_filter", "hash_words":
-            little, big = load(f"{name}.little.bin"), load(f"{name}.big.bin")
-            self.assertEqual(bpfcanon.insn_canon(big, order=Order.BIG), little)
-            self.assertEqual(bpfcanon.insn_canon(little, to=Order.BIG), big)
-            self.assertEqual(bpfcanon.insn_read(bpfcanon.insn_show(big, order=Order.BIG)), little)
-            self.assertTrue(bpfcanon.insn_same(big, little, first_order=Order.BIG))
-            self.assertTrue(bpfcanon.insn_same(little, big, second_order=Order.BIG))
-
     def test_programs_of_one_length_may_be_different(self) -> None:
         mov, mov_big = unhex(INSNS[0][1]), unhex(INSNS[0][2])
         for first, second, is_same in (mov, mov_big, True), (mov, mov, False), (mov, EXIT, False), (EXIT, mov_big, False):

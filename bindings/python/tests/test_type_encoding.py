@@ -111,6 +111,7 @@ class Encoded(unittest.TestCase):
             want = btf_canon(btf("<", (words, STRINGS)), to=to)
             self.assertEqual(btf_encode(types, to=to), want)
             self.assertEqual(btf_encode(iter(Btf(want)[1:]), to=to), want)
+            self.assertEqual(list(Btf(want)[1:]), types)
 
     def test_no_types(self) -> None:
         self.assertEqual(btf_encode([], to=Order.BIG), btf(">", ([], b"\0")))

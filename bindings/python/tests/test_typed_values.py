@@ -13,7 +13,7 @@ import bpfcanon
 from bpfcanon import Btf, EncodeInsnError, NoSuchTypeError, Order, OrderError, Program, TypeCycleError, insn_encode, insns
 from bpfcanon.insn_types import Alu, AluOp, AtomicOp, Atomic, Branch, BranchOp, CallBtf, CallHelper, Exit, Imm, Insn, Jump, Load, LoadSigned
 from bpfcanon.insn_types import MapFd, MapValueFd, Number, Reg, Size, SmallSize, StoreImm, Wide, Width
-from bpfcanon.types import Const, Encoding, Enum, EnumValue, Int, Member, Struct, Typedef, Void
+from bpfcanon.types import Const, Encoding, Int, Member, Struct, Typedef, Void
 
 from .samples import INSNS, btf, load, unhex
 
@@ -162,12 +162,6 @@ class Types(unittest.TestCase):
             self.assertEqual(str(raised.exception), f"type {id} leads back to itself")
         self.assertEqual(found.resolve(5), 5)
         self.assertEqual(found[1], Const(1))
-
-    def test_signed_values_have_a_sign(self) -> None:
-        values = [1, 0xFFFFFFFE, 3, 5]
-        for flag, first in (0, 0xFFFFFFFE), (1, -2):
-            found = table([0, info(6, 2, flag), 4, *values])
-            self.assertEqual(found[1], Enum("", bool(flag), 4, (EnumValue("a", first), EnumValue("b", 5))))
 
     def test_equal_types_have_equal_hashes(self) -> None:
         record = [1, info(4, 1), 4, 3, 0, 0]

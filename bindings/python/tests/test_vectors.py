@@ -67,6 +67,7 @@ class Vectors(unittest.TestCase):
                         lambda: bpfcanon.insn_canon(program, order=order),
                         lambda: bpfcanon.insn_show(program, order=order),
                         lambda: bpfcanon.insn_groups(program, order=order),
+                        lambda: bpfcanon.Program(program, order=order),
                         lambda: bpfcanon.insn_same(program, EXIT, first_order=order),
                     ]
                     self.faults(calls, found, int(pos), 0, False)
@@ -101,6 +102,7 @@ class Vectors(unittest.TestCase):
                         lambda: bpfcanon.btf_canon(given),
                         lambda: bpfcanon.btf_show(given),
                         lambda: bpfcanon.btf_check(given),
+                        lambda: bpfcanon.Btf(given),
                         lambda: bpfcanon.btf_same(given, good),
                     ]
                     self.faults(calls, found, int(pos), 0, False)

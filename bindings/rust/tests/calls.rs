@@ -1,4 +1,4 @@
-//! What the vectors don't show: compiled files, empty inputs, long output, errors, numbers of the
+//! What the vectors don't show: empty inputs, long output, errors, numbers of the
 //! header and threads.
 
 use bpfcanon::insn::Groups;
@@ -10,26 +10,6 @@ const EXIT: [u8; 8] = [0x95, 0, 0, 0, 0, 0, 0, 0];
 fn load(name: &str) -> Vec<u8> {
     let path = format!("{}/../../testdata/{name}", env!("CARGO_MANIFEST_DIR"));
     fs::read(&path).unwrap_or_else(|error| panic!("{path}: {error}"))
-}
-
-#[test]
-fn compiled_files_of_both_orders_have_the_same_canonical_bytes() {
-    for name in ["packet_filter", "hash_words"] {
-        let (little, big) = (load(&format!("{name}.little.bin")), load(&format!("{name}.big.bin")));
-        assert_eq!(insn::canon(Order::Little, Order::Little, &little).unwrap(), little);
-        assert_eq!(insn::canon(Order::Big, Order::Little, &big).unwrap(), little);
-        assert_eq!(insn::canon(Order::Little, Order::Big, &little).unwrap(), big);
-        assert_eq!(insn::same(Order::Little, &little, Order::Big, &big), Ok(true));
-        assert_eq!(insn::same(Order::Little, &little, Order::Little, &EXIT), Ok(false));
-        let listing = insn::show(Order::Big, &big).unwrap();
-        assert_eq!(insn::read(Order::Little, listing).unwrap(), little);
-    }
-    let (little, big) = (load("flow_table.little.btf"), load("flow_table.big.btf"));
-    let canonical = btf::canon(Order::Little, &little).unwrap();
-    assert_eq!(btf::canon(Order::Little, &big).unwrap(), canonical);
-    assert_eq!(btf::same(&little, &big), Ok(true));
-    let records = btf::show(&big).unwrap().lines().filter(|it| it.starts_with('[')).count();
-    assert_eq!(btf::check(&little).unwrap() as usize, records);
 }
 
 #[test]

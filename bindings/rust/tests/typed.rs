@@ -2,8 +2,8 @@
 
 mod rows;
 
-use bpfcanon::btf::{Btf, EnumValue, ResolveError, Type, TypeId};
-use bpfcanon::insn::{self, AluOp, Insn, Operand, Program, Reg, WideOf, Width};
+use bpfcanon::btf::{Btf, ResolveError, Type, TypeId};
+use bpfcanon::insn::{self, Insn, Program};
 use bpfcanon::Order;
 use rows::load;
 use std::sync::mpsc;
@@ -13,14 +13,11 @@ use std::time::Duration;
 /// The kinds of btf.rst section 2.2, as they are in bits 24 to 28 of the info word.
 const INT: u32 = 1 << 24;
 const STRUCT: u32 = 4 << 24;
-const ENUM: u32 = 6 << 24;
 const TYPEDEF: u32 = 8 << 24;
 const VOLATILE: u32 = 9 << 24;
 const CONST: u32 = 10 << 24;
 const RESTRICT: u32 = 11 << 24;
 const TYPE_TAG: u32 = 18 << 24;
-const ENUM64: u32 = 19 << 24;
-const KIND_FLAG: u32 = 1 << 31;
 
 /// Little-endian BTF of these words of the type section, with the names `a` at 1 and `bc` at 3.
 fn file(words: &[u32]) -> Vec<u8> {
@@ -116,22 +113,6 @@ fn names_live_as_long_as_the_file() {
     assert!(file.as_ptr_range().contains(&name.as_ptr()));
 }
 
-#[test]
-fn values_are_signed_if_their_enum_is() {
-    let most = u32::MAX;
-    let words = [A, ENUM | 1, 4, A, most, A, KIND_FLAG | ENUM | 1, 4, A, most];
-    let words64 = [A, ENUM64 | 1, 8, A, 0, 1 << 31, A, KIND_FLAG | ENUM64 | 1, 8, A, 0, 1 << 31];
-    let file = file(&[&words[..], &words64].concat());
-    let btf = Btf::decode(&file).unwrap();
-    let found = btf.iter().flat_map(|(_, it)| match it {
-        Type::Enum { values, .. } | Type::Enum64 { values, .. } => values,
-        other => panic!("{other:?}"),
-    });
-    let numbers = [4_294_967_295, -1, i64::MIN, i64::MIN].map(|it| it as u64);
-    let values = numbers.map(|value| EnumValue { name: "a", value });
-    assert_eq!(found.collect::<Vec<_>>(), values);
-}
-
 /// What an iterator returns is the same from each end, by `nth`, and as long as it says.
 fn is_exact<I>(mut iter: I)
 where
@@ -171,6 +152,7 @@ fn iterators_know_their_length() {
     assert_eq!(program.bytes(len), None);
     let encodings: Vec<_> = (0..len).flat_map(|it| program.bytes(it).unwrap()).copied().collect();
     assert_eq!(encodings, bytes);
+    assert_eq!(insn::encode(Order::Big, program.iter().map(|(_, it)| it)), Ok(bytes));
 }
 
 #[test]
@@ -183,31 +165,6 @@ fn empty_inputs_have_no_values() {
     assert_eq!((btf.is_empty(), btf.len(), btf.iter().next()), (true, 0, None));
     assert_eq!(btf.get(TypeId::VOID), Some(Type::Void));
     assert_eq!(Btf::decode(&[]).unwrap_err().fault().unwrap().offset(), 0);
-}
-
-/// The bytes are worked out by RFC 9669 sections 3.1, 4.1 and 5.4.
-#[test]
-fn instructions_are_encoded_in_both_orders() {
-    let [r1, r10] = [1, 10].map(|it| Reg::new(it).unwrap());
-    let insns = [
-        Insn::Alu { width: Width::W64, op: AluOp::Sdiv, dst: r1, arg: Operand::Reg(r10) },
-        Insn::Wide { dst: r10, what: WideOf::Number(0x0102_0304_0506_0708) },
-        Insn::Exit,
-    ];
-    let little = [
-        [0x3f, 0xa1, 1, 0, 0, 0, 0, 0],
-        [0x18, 0x0a, 0, 0, 8, 7, 6, 5],
-        [0, 0, 0, 0, 4, 3, 2, 1],
-        [0x95, 0, 0, 0, 0, 0, 0, 0],
-    ];
-    let big = [
-        [0x3f, 0x1a, 0, 1, 0, 0, 0, 0],
-        [0x18, 0xa0, 0, 0, 5, 6, 7, 8],
-        [0, 0, 0, 0, 1, 2, 3, 4],
-        [0x95, 0, 0, 0, 0, 0, 0, 0],
-    ];
-    assert_eq!(insn::encode(Order::Little, insns), Ok(little.concat()));
-    assert_eq!(insn::encode(Order::Big, insns.iter()), Ok(big.concat()));
 }
 
 #[test]

@@ -5,7 +5,7 @@ mod rows;
 
 use bpfcanon::btf::{self, Btf, Linkage, Type};
 use bpfcanon::insn::{self, Insn, MovsxForm, Operand, Program, Size, SmallSize, WideOf, Width};
-use rows::{data, load, rows, text, ORDERS};
+use rows::{data, rows, text, ORDERS};
 use std::fmt::{Debug, Write};
 
 /// The name of a variant in lower case.
@@ -227,40 +227,6 @@ fn types_have_the_fields_of_their_lines() {
                 let types = btf.iter().map(|(_, it)| it);
                 assert_eq!(btf::encode(to, types), Ok(data(canonical)), "{}", row[0]);
             }
-        }
-    }
-}
-
-#[test]
-fn compiled_files_have_the_fields_of_their_lines() {
-    for (order, name) in ORDERS.into_iter().zip(["little", "big"]) {
-        let file = load(&format!("flow_table.{name}.btf"));
-        assert_eq!(listing(&Btf::decode(&file).unwrap()), btf::show(&file).unwrap());
-        for program in ["packet_filter", "hash_words"] {
-            let bytes = load(&format!("{program}.{name}.bin"));
-            let program = Program::decode(order, &bytes).unwrap();
-            let lines: String = program.iter().map(|(_, it)| insn_line(it) + "\n").collect();
-            assert_eq!(lines, insn::show(order, &bytes).unwrap());
-        }
-    }
-}
-
-#[test]
-fn faults_are_those_of_the_rows() {
-    for row in rows("insn-fault") {
-        for (order, field) in ORDERS.into_iter().zip(&row[1..3]) {
-            let error = Program::decode(order, &data(field)).unwrap_err();
-            let fault = error.fault().unwrap();
-            let found = (fault.offset().to_string(), format!("{:?}", fault.cause()));
-            assert_eq!(found, (row[3].clone(), row[4].clone()), "{}", row[0]);
-        }
-    }
-    for row in rows("btf-fault") {
-        for file in row[1..3].iter().map(|it| data(it)) {
-            let error = Btf::decode(&file).unwrap_err();
-            let fault = error.fault().unwrap();
-            let found = (fault.offset().to_string(), format!("{:?}", fault.cause()));
-            assert_eq!(found, (row[3].clone(), row[4].clone()), "{}", row[0]);
         }
     }
 }

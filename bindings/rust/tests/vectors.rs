@@ -2,6 +2,8 @@
 
 mod rows;
 
+use bpfcanon::btf::Btf;
+use bpfcanon::insn::Program;
 use bpfcanon::{btf, insn, Error, Fault, Order};
 use rows::{data, each_row, rows, text, ORDERS};
 use std::fmt::Debug;
@@ -64,6 +66,7 @@ fn faulty_instructions() {
             );
             assert_eq!(insn_fault(insn::show(order, &program)), first, "{}", row[0]);
             assert_eq!(insn_fault(insn::groups(order, &program)), first, "{}", row[0]);
+            assert_eq!(insn_fault(Program::decode(order, &program)), first, "{}", row[0]);
             assert_eq!(insn_fault(insn::same(order, &program, order, &[])), first, "{}", row[0]);
             assert_eq!(insn_fault(insn::same(order, &[], order, &program)), second, "{}", row[0]);
         }
@@ -117,6 +120,7 @@ fn faulty_types() {
             assert_eq!(btf_fault(btf::canon(Order::Little, &file)), first, "{}", row[0]);
             assert_eq!(btf_fault(btf::show(&file)), first, "{}", row[0]);
             assert_eq!(btf_fault(btf::check(&file)), first, "{}", row[0]);
+            assert_eq!(btf_fault(Btf::decode(&file)), first, "{}", row[0]);
             assert_eq!(btf_fault(btf::same(&file, &good)), first, "{}", row[0]);
             assert_eq!(btf_fault(btf::same(&good, &file)), second, "{}", row[0]);
         }
