@@ -80,19 +80,6 @@ func TestNoTypesAreEncoded(t *testing.T) {
 	wantBytes(t, "none encoded", got, err, btf(binary.BigEndian, nil, "\x00"))
 }
 
-func TestCompiledTypesAreEncoded(t *testing.T) {
-	for _, name := range []string{"flow_table.little.btf", "flow_table.big.btf"} {
-		for _, to := range orders {
-			want, err := bpfcanon.CanonBTF(to, load(t, name))
-			if err != nil {
-				t.Fatal(err)
-			}
-			got, err := bpfcanon.EncodeBTF(to, decode(t, load(t, name)).Types())
-			wantBytes(t, name, got, err, want)
-		}
-	}
-}
-
 func structOf(members ...bpfcanon.Member) bpfcanon.Type {
 	return bpfcanon.Struct{Size: 1 << 30, Members: members}
 }

@@ -10,7 +10,7 @@ from bpfcanon import Btf, BtfCause, EncodeBtfError, Order, OrderError, btf_canon
 from bpfcanon.types import Array, Const, Datasec, DeclTag, Encoding, Entry, Enum, Enum64, EnumValue, Float, Func, FuncProto, Fwd, Int
 from bpfcanon.types import Linkage, Member, Param, Ptr, Restrict, Struct, Type, TypeTag, Typedef, Union, Var, Void, Volatile
 
-from .samples import TESTDATA, btf
+from .samples import btf
 
 STRINGS = b"\0a\0bc\0"
 
@@ -115,12 +115,6 @@ class Encoded(unittest.TestCase):
 
     def test_no_types(self) -> None:
         self.assertEqual(btf_encode([], to=Order.BIG), btf(">", ([], b"\0")))
-
-    def test_compiled_files(self) -> None:
-        for file in TESTDATA.glob("*.btf"):
-            for to in Order:
-                want = btf_canon(file.read_bytes(), to=to)
-                self.assertEqual(btf_encode(Btf(file.read_bytes())[1:], to=to), want, file.name)
 
     def test_a_number_that_is_no_order_is_refused(self) -> None:
         number: Any = 2

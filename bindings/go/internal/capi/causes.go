@@ -9,15 +9,7 @@ func Version() string {
 }
 
 // The calls below return the name of a number, for example "Truncated", or a sentence that explains
-// it. Both are "" for a number that isn't a status or cause.
-
-func StatusName(status Status) string {
-	return C.GoString(C.bpfcanon_status_name(C.uint32_t(status)))
-}
-
-func StatusText(status Status) string {
-	return C.GoString(C.bpfcanon_status_text(C.uint32_t(status)))
-}
+// it. Both are "" for a number that isn't a cause.
 
 func InsnCauseName(cause uint32) string {
 	return C.GoString(C.bpfcanon_insn_cause_name(C.uint32_t(cause)))
