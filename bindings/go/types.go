@@ -113,7 +113,8 @@ func (b *BTF) Type(id ID) (Type, error) {
 	return b.typeOf(r, &itemArrays{}), nil
 }
 
-// Types returns the types with the IDs 1 to Len, for example to change some of them and encode all.
+// Types returns the types with the IDs 1 to Len, for example to change some of them and encode all. The
+// items of about a thousand are in one array, which stays in memory with each of them.
 func (b *BTF) Types() []Type {
 	types, arrays := make([]Type, len(b.types)), itemArrays{least: 1000}
 	for i := range types {

@@ -1,16 +1,14 @@
-//! What the vectors don't show: empty inputs, long output, errors, numbers of the
-//! header and threads.
+//! What the vectors don't show: empty inputs, long output, errors, numbers of the header and
+//! threads.
+
+mod rows;
 
 use bpfcanon::insn::Groups;
 use bpfcanon::{btf, insn, object, Order};
-use std::{error, fs, io};
+use rows::{load, named};
+use std::{error, io};
 
 const EXIT: [u8; 8] = [0x95, 0, 0, 0, 0, 0, 0, 0];
-
-fn load(name: &str) -> Vec<u8> {
-    let path = format!("{}/../../testdata/{name}", env!("CARGO_MANIFEST_DIR"));
-    fs::read(&path).unwrap_or_else(|error| panic!("{path}: {error}"))
-}
 
 #[test]
 fn empty_inputs_are_inputs() {
@@ -25,11 +23,7 @@ fn empty_inputs_are_inputs() {
 
 /// Little-endian BTF of some FWDs with one name.
 fn forwards(count: usize, name: &str) -> Vec<u8> {
-    let types = [1u32, 7 << 24, 0].map(u32::to_le_bytes).concat().repeat(count);
-    let strings = format!("\0{name}\0");
-    let lengths = [24, 0, types.len(), types.len(), strings.len()];
-    let lengths = lengths.map(|it| (it as u32).to_le_bytes()).concat();
-    [&[0x9f, 0xeb, 1, 0], &lengths[..], &types, strings.as_bytes()].concat()
+    named(&[1, 7 << 24, 0].repeat(count), &format!("\0{name}\0"))
 }
 
 /// 300 types with one name of 2,000 letters: their text is many times as long as the file.

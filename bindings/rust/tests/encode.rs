@@ -6,20 +6,11 @@ mod rows;
 use bpfcanon::btf::{
     self, Btf, Cause, EncodeError, Encoding, Entry, EnumValue, Linkage, Member, Param, Type, TypeId,
 };
-use rows::{load, ORDERS};
+use rows::{file, load, ORDERS};
 
 /// The info word of a kind of btf.rst section 2.2, with a vlen and a kind_flag.
 const fn info(kind: u32, vlen: u32, flag: u32) -> u32 {
     flag << 31 | kind << 24 | vlen
-}
-
-/// Little-endian BTF of these words of the type section, with the names `a` at 1 and `bc` at 3.
-fn file(words: &[u32]) -> Vec<u8> {
-    let types = words.iter().flat_map(|it| it.to_le_bytes()).collect::<Vec<_>>();
-    let strings = b"\0a\0bc\0";
-    let lengths = [24, 0, types.len(), types.len(), strings.len()];
-    let lengths = lengths.map(|it| (it as u32).to_le_bytes()).concat();
-    [&[0x9f, 0xeb, 1, 0], &lengths[..], &types, strings].concat()
 }
 
 const fn member(name: &str, target: u32, bit_offset: u32, width: u8) -> Member<'_> {

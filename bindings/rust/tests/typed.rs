@@ -5,7 +5,7 @@ mod rows;
 use bpfcanon::btf::{Btf, ResolveError, Type, TypeId};
 use bpfcanon::insn::{self, Insn, Program};
 use bpfcanon::Order;
-use rows::load;
+use rows::{file, load};
 use std::sync::mpsc;
 use std::thread;
 use std::time::Duration;
@@ -18,15 +18,6 @@ const VOLATILE: u32 = 9 << 24;
 const CONST: u32 = 10 << 24;
 const RESTRICT: u32 = 11 << 24;
 const TYPE_TAG: u32 = 18 << 24;
-
-/// Little-endian BTF of these words of the type section, with the names `a` at 1 and `bc` at 3.
-fn file(words: &[u32]) -> Vec<u8> {
-    let types = words.iter().flat_map(|it| it.to_le_bytes()).collect::<Vec<_>>();
-    let strings = b"\0a\0bc\0";
-    let lengths = [24, 0, types.len(), types.len(), strings.len()];
-    let lengths = lengths.map(|it| (it as u32).to_le_bytes()).concat();
-    [&[0x9f, 0xeb, 1, 0], &lengths[..], &types, strings].concat()
-}
 
 const A: u32 = 1;
 const BC: u32 = 3;

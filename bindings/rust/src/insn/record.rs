@@ -111,27 +111,21 @@ impl From<Insn> for bpfcanon_insn {
 }
 
 impl MovsxForm {
-    /// The form with these widths of the destination and of the source, in bits.
+    /// Each form, with the widths of the destination and of the source in bits.
+    const BITS: [(MovsxForm, (u8, u8)); 5] = [
+        (MovsxForm::W32From8, (32, 8)),
+        (MovsxForm::W32From16, (32, 16)),
+        (MovsxForm::W64From8, (64, 8)),
+        (MovsxForm::W64From16, (64, 16)),
+        (MovsxForm::W64From32, (64, 32)),
+    ];
+
     fn of_bits(bits: u8, from: u8) -> Option<MovsxForm> {
-        Some(match (bits, from) {
-            (32, 8) => MovsxForm::W32From8,
-            (32, 16) => MovsxForm::W32From16,
-            (64, 8) => MovsxForm::W64From8,
-            (64, 16) => MovsxForm::W64From16,
-            (64, 32) => MovsxForm::W64From32,
-            _ => return None,
-        })
+        MovsxForm::BITS.iter().find(|it| it.1 == (bits, from)).map(|it| it.0)
     }
 
-    /// The widths of the destination and of the source, in bits.
     fn bits(self) -> (u8, u8) {
-        match self {
-            MovsxForm::W32From8 => (32, 8),
-            MovsxForm::W32From16 => (32, 16),
-            MovsxForm::W64From8 => (64, 8),
-            MovsxForm::W64From16 => (64, 16),
-            MovsxForm::W64From32 => (64, 32),
-        }
+        MovsxForm::BITS[self as usize].1
     }
 }
 

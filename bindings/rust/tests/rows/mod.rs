@@ -71,3 +71,16 @@ pub fn load(name: &str) -> Vec<u8> {
     let path = format!("{}/../../testdata/{name}", env!("CARGO_MANIFEST_DIR"));
     fs::read(&path).unwrap_or_else(|error| panic!("{path}: {error}"))
 }
+
+/// Little-endian BTF of these words of the type section and these strings.
+pub fn named(words: &[u32], strings: &str) -> Vec<u8> {
+    let types = words.iter().flat_map(|it| it.to_le_bytes()).collect::<Vec<_>>();
+    let lengths = [24, 0, types.len(), types.len(), strings.len()];
+    let lengths = lengths.map(|it| (it as u32).to_le_bytes()).concat();
+    [&[0x9f, 0xeb, 1, 0], &lengths[..], &types, strings.as_bytes()].concat()
+}
+
+/// Likewise, with the names `a` at 1 and `bc` at 3.
+pub fn file(words: &[u32]) -> Vec<u8> {
+    named(words, "\0a\0bc\0")
+}
