@@ -110,9 +110,12 @@ class File:
         return self.items_of(it, signed_enum64_value if it.flag else enum_value)
 
 
+# The members of enums by their values: to call an enum takes longer.
+ENCODINGS = {it.value: it for it in Encoding}
+LINKAGES = {it.value: it for it in Linkage}
 # By the kind of a type.
 BY_KIND: dict[int, Callable[[File, TypeRecord], Type]] = {
-    Kind.INT: lambda file, it: btf.Int(file.name(it), it.size, Encoding(it.encoding), it.bit_offset, it.bits),
+    Kind.INT: lambda file, it: btf.Int(file.name(it), it.size, ENCODINGS[it.encoding], it.bit_offset, it.bits),
     Kind.PTR: lambda file, it: btf.Ptr(it.target),
     Kind.ARRAY: lambda file, it: btf.Array(it.target, it.index_type, it.elements),
     Kind.STRUCT: lambda file, it: btf.Struct(file.name(it), it.size, file.items_of(it, member)),
@@ -123,9 +126,9 @@ BY_KIND: dict[int, Callable[[File, TypeRecord], Type]] = {
     Kind.VOLATILE: lambda file, it: btf.Volatile(it.target),
     Kind.CONST: lambda file, it: btf.Const(it.target),
     Kind.RESTRICT: lambda file, it: btf.Restrict(it.target),
-    Kind.FUNC: lambda file, it: btf.Func(file.name(it), Linkage(it.linkage), it.target),
+    Kind.FUNC: lambda file, it: btf.Func(file.name(it), LINKAGES[it.linkage], it.target),
     Kind.FUNC_PROTO: lambda file, it: btf.FuncProto(it.target, file.items_of(it, param)),
-    Kind.VAR: lambda file, it: btf.Var(file.name(it), it.target, Linkage(it.linkage)),
+    Kind.VAR: lambda file, it: btf.Var(file.name(it), it.target, LINKAGES[it.linkage]),
     Kind.DATASEC: lambda file, it: btf.Datasec(file.name(it), it.size, file.items_of(it, entry)),
     Kind.FLOAT: lambda file, it: btf.Float(file.name(it), it.size),
     Kind.DECL_TAG: lambda file, it: btf.DeclTag(file.name(it), bool(it.flag), it.target, None if it.component < 0 else it.component),
@@ -140,5 +143,5 @@ def type_of(file: File, record: TypeRecord) -> Type:
     """Return the type that a record of the library says. Raises UnknownRecordError."""
     try:
         return BY_KIND[record.kind](file, record)
-    except (LookupError, ValueError):
+    except LookupError:
         raise UnknownRecordError(record) from None

@@ -51,7 +51,9 @@ class Btf(Sequence[Type]):
 
     def __iter__(self) -> Iterator[Type]:
         yield VOID
-        yield from (type_of(self._file, TypeRecord._make(it)) for it in TYPE.iter_unpack(self.type_records))
+        file = self._file
+        for it in map(TypeRecord._make, TYPE.iter_unpack(self.type_records)):
+            yield type_of(file, it)
 
     def __repr__(self) -> str:
         return f"<Btf of {self._count} types>"

@@ -60,10 +60,16 @@ Item = typing.Union[Member, EnumValue, Param, Entry]
 class HasItems:
     """A type with items. A list of them becomes a tuple, so that types with equal fields and items are equal, with equal hashes."""
 
+    _items: typing.ClassVar[str]
+
+    def __init_subclass__(cls, items: str = "") -> None:
+        if items:
+            cls._items = items
+
     def __post_init__(self) -> None:
-        for name, value in vars(self).items():
-            if isinstance(value, list):
-                object.__setattr__(self, name, tuple(value))
+        value = getattr(self, self._items)
+        if isinstance(value, list):
+            object.__setattr__(self, self._items, tuple(value))
 
 
 @dataclass(frozen=True)
@@ -99,7 +105,7 @@ class Array:
 
 
 @dataclass(frozen=True)
-class Struct(HasItems):
+class Struct(HasItems, items="members"):
     """A struct (btf.rst section 2.2.4)."""
 
     name: str
@@ -108,7 +114,7 @@ class Struct(HasItems):
 
 
 @dataclass(frozen=True)
-class Union(HasItems):
+class Union(HasItems, items="members"):
     """A union (btf.rst section 2.2.5)."""
 
     name: str
@@ -117,7 +123,7 @@ class Union(HasItems):
 
 
 @dataclass(frozen=True)
-class Enum(HasItems):
+class Enum(HasItems, items="values"):
     """An enum with 32-bit values (btf.rst section 2.2.6). `signed` is its kind_flag."""
 
     name: str
@@ -173,7 +179,7 @@ class Func:
 
 
 @dataclass(frozen=True)
-class FuncProto(HasItems):
+class FuncProto(HasItems, items="params"):
     """A function prototype, which returns `target` (btf.rst section 2.2.13)."""
 
     target: int
@@ -190,7 +196,7 @@ class Var:
 
 
 @dataclass(frozen=True)
-class Datasec(HasItems):
+class Datasec(HasItems, items="entries"):
     """A data section (btf.rst section 2.2.15)."""
 
     name: str
@@ -229,7 +235,7 @@ class TypeTag:
 
 
 @dataclass(frozen=True)
-class Enum64(HasItems):
+class Enum64(HasItems, items="values"):
     """An enum with 64-bit values (btf.rst section 2.2.19). `signed` is its kind_flag."""
 
     name: str
