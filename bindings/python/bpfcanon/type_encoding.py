@@ -115,7 +115,8 @@ def all_of(kind: type[T], given: Sequence[T]) -> tuple[T, ...]:
     """Return items. Raises TypeError if one is of another class."""
     found = tuple(given)
     if not {kind}.issuperset(map(type, found)):
-        raise TypeError(f"an item isn't of the class {kind.__name__}")
+        wrong = next(it for it in found if type(it) is not kind)
+        raise TypeError(f"{wrong!r} isn't of the class {kind.__name__}")
     return found
 
 
