@@ -12,6 +12,7 @@ use bpf_insn::{Insn, InsnError, Order};
 use btf_types::BtfView;
 use bumpalo::Bump;
 use std::alloc::{AllocError, Allocator, Global};
+use std::process::Abort;
 
 /// An exit seven times.
 const EXITS: &[u8; 56] =
@@ -114,29 +115,23 @@ impl ArenaCall for Call<'_> {
     }
 }
 
+/// Checks that at least so many arenas are too small for a call, and that its growths fail at so many points or more.
+fn check(rt: &impl Abort, alloc: Global, call: Call<'_>, refused: usize, points: usize) {
+    let tally = Tally::of(rt, alloc, &call);
+    holds(rt, tally.is_right(refused, points), &(refused, tally));
+}
+
 #[test]
 fn each_growth_is_refused(rt: HostRuntime) {
-    let view = BtfView::parse(rt.alloc(), flow_table_little()).expect(&rt, "a table");
-    let big = write_btf(rt.alloc(), Order::Big, &view).expect(&rt, "ample memory");
-    let little = canon_btf(rt.alloc(), flow_table_big()).expect(&rt, "canonical bytes");
+    let alloc = rt.alloc();
+    let view = BtfView::parse(alloc, flow_table_little()).expect(&rt, "a table");
+    let big = write_btf(alloc, Order::Big, &view).expect(&rt, "ample memory");
+    let little = canon_btf(alloc, flow_table_big()).expect(&rt, "canonical bytes");
     let lens = (little.len(), big.len());
     equal(&rt, &lens, &(CANONICAL_LEN, CANONICAL_LEN), &"the lengths");
-    // A call, how many arenas are too small for it, and at how many points growths fail, each at least.
-    let rows = [
-        ("write", Call::WriteInsns, 56, 1),
-        (
-            "write types",
-            Call::WriteTypes(&view, &big),
-            CANONICAL_LEN,
-            4,
-        ),
-        ("feed", Call::Feed, 56, 3),
-        ("run into a sink", Call::SinkInsns, 56, 3),
-        ("run types into a sink", Call::SinkTypes, 45, 3),
-    ];
-    for (name, call, refused, points) in &rows {
-        let tally = Tally::of(&rt, rt.alloc(), call);
-        let is_right = tally.is_right(*refused, *points);
-        holds(&rt, is_right, &(*name, tally));
-    }
+    check(&rt, alloc, Call::WriteInsns, 56, 1);
+    check(&rt, alloc, Call::WriteTypes(&view, &big), CANONICAL_LEN, 4);
+    check(&rt, alloc, Call::Feed, 56, 3);
+    check(&rt, alloc, Call::SinkInsns, 56, 3);
+    check(&rt, alloc, Call::SinkTypes, 45, 3);
 }

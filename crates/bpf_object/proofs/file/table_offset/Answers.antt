@@ -2,8 +2,8 @@ use Rattle.std.proofs.Common.{arith}
 use Rattle.bpf_object.proofs.FileLemmas.{content_small, within, nothing}
 use Rattle.bpf_object.proofs.file.table_offset.Goals as goal
 
-pub padded_len-new_offset-requires : goal.padded_len-new_offset-requires
-padded_len-new_offset-requires c = content_small c.args.sections.now c.loop-k.k _ _ c.loop-k-test.true c.requires
+pub padded_len-place-requires : goal.padded_len-place-requires
+padded_len-place-requires c = content_small c.args.sections.now c.loop-k.k _ _ c.loop-k-test.true c.requires
 
 pub overflow_add-place : goal.overflow_add-place
 overflow_add-place c =
