@@ -10,6 +10,7 @@ import (
 	"unicode/utf8"
 
 	"bpfcanon"
+	"bpfcanon/examples/typed_lines/listing"
 )
 
 // `go test -run Changed -args -changes=1000000` tries more.
@@ -30,8 +31,8 @@ func checkTypes(t *testing.T, file []byte) bool {
 	if b.Len() != count {
 		t.Errorf("%d types, want %d", b.Len(), count)
 	}
-	listing, err := bpfcanon.ShowBTF(file)
-	wantBytes(t, "decoded types", []byte(typeListingOf(b)), err, listing)
+	shown, err := bpfcanon.ShowBTF(file)
+	wantBytes(t, "decoded types", []byte(listing.Types(b.Types())), err, shown)
 	for id := bpfcanon.ID(1); int(id) <= b.Len(); id++ {
 		checkReferences(t, b, id)
 	}
@@ -81,8 +82,8 @@ func checkInsns(t *testing.T, order bpfcanon.Order, program []byte) bool {
 	if err != nil {
 		return false
 	}
-	listing, err := bpfcanon.ShowInsns(order, program)
-	wantBytes(t, "decoded instructions", []byte(listingOf(decoded)), err, listing)
+	shown, err := bpfcanon.ShowInsns(order, program)
+	wantBytes(t, "decoded instructions", []byte(listing.Insns(decoded.Insns())), err, shown)
 	for _, to := range orders {
 		want, err := bpfcanon.CanonInsns(order, to, program)
 		if err != nil {

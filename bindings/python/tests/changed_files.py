@@ -14,10 +14,10 @@ from typing import Callable, Iterator, Optional
 
 import bpfcanon
 from bpfcanon import Btf, FaultError, Order, Program, TypeCycleError
+from examples.typed_lines import insn_listing, type_listing
 
 from .samples import load
 from .test_vectors import ORDERS, data, rows
-from .typed_listings import insn_line, type_lines
 
 # Values at which fields have other meanings.
 BYTES = [0, 1, 2, 7, 8, 0x7F, 0x80, 0xFF]
@@ -48,8 +48,7 @@ def walk_types(file: bytes) -> bool:
     if fault:
         return False
     btf = Btf(file)
-    listing = "".join(f"{line}\n" for id, it in enumerate(btf[1:], 1) for line in type_lines(id, it))
-    assert listing == bpfcanon.btf_show(file), file.hex()
+    assert type_listing(btf[1:]) == bpfcanon.btf_show(file), file.hex()
     assert bpfcanon.btf_encode(btf[1:]) == bpfcanon.btf_canon(file), file.hex()
     for id in range(1, len(btf)):
         with contextlib.suppress(TypeCycleError):
@@ -66,7 +65,7 @@ def walk_program(code: bytes, order: Order) -> bool:
     if fault:
         return False
     program = Program(code, order=order)
-    assert "".join(f"{insn_line(it)}\n" for it in program) == bpfcanon.insn_show(code, order=order), code.hex()
+    assert insn_listing(program) == bpfcanon.insn_show(code, order=order), code.hex()
     assert bpfcanon.insn_encode(program, to=order) == code, code.hex()
     return True
 

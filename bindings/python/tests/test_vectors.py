@@ -6,7 +6,8 @@ import unittest
 from typing import Callable
 
 import bpfcanon
-from bpfcanon import BtfCause, FaultError, Group, InsnCause, LineCause, Order
+from bpfcanon import Btf, BtfCause, FaultError, Group, InsnCause, LineCause, Order, Program
+from examples.typed_lines import insn_listing, type_listing
 
 from .samples import TESTDATA
 
@@ -50,7 +51,11 @@ class Vectors(unittest.TestCase):
             with self.subTest(line=number):
                 programs, needed = dict(zip(ORDERS, map(data, files))), Group[group.upper()]
                 for order, program in programs.items():
+                    decoded = Program(program, order=order)
+                    self.assertEqual((insn_listing(decoded), len(decoded)), (f"{line}\n", 1))
+                    self.assertEqual((decoded.offset(0), decoded.group(0)), (0, needed), line)
                     for to in ORDERS:
+                        self.assertEqual(bpfcanon.insn_encode(decoded, to=to), programs[to], line)
                         self.assertEqual(bpfcanon.insn_canon(program, order=order, to=to), programs[to], line)
                         self.assertTrue(bpfcanon.insn_same(program, programs[to], first_order=order, second_order=to), line)
                     self.assertFalse(bpfcanon.insn_same(program, program + EXIT, first_order=order, second_order=order), line)
@@ -67,7 +72,7 @@ class Vectors(unittest.TestCase):
                         lambda: bpfcanon.insn_canon(program, order=order),
                         lambda: bpfcanon.insn_show(program, order=order),
                         lambda: bpfcanon.insn_groups(program, order=order),
-                        lambda: bpfcanon.Program(program, order=order),
+                        lambda: Program(program, order=order),
                         lambda: bpfcanon.insn_same(program, EXIT, first_order=order),
                     ]
                     self.faults(calls, found, int(pos), 0, False)
@@ -86,8 +91,11 @@ class Vectors(unittest.TestCase):
         for number, (name, file, little, big, count, shown) in numbered("btf"):
             with self.subTest(line=number):
                 for given in {data(file), data(little), data(big)}:
-                    self.assertEqual(bpfcanon.btf_canon(given), data(little), name)
-                    self.assertEqual(bpfcanon.btf_canon(given, to=Order.BIG), data(big), name)
+                    decoded = Btf(given)
+                    self.assertEqual((type_listing(decoded[1:]).encode(), len(decoded)), (text(shown), int(count) + 1), name)
+                    for to, canonical in zip(ORDERS, (data(little), data(big))):
+                        self.assertEqual(bpfcanon.btf_canon(given, to=to), canonical, name)
+                        self.assertEqual(bpfcanon.btf_encode(decoded[1:], to=to), canonical, name)
                     self.assertEqual(bpfcanon.btf_check(given), int(count), name)
                     self.assertEqual(bpfcanon.btf_show(given).encode(), text(shown), name)
                     self.assertTrue(bpfcanon.btf_same(given, data(little)), name)
@@ -102,7 +110,7 @@ class Vectors(unittest.TestCase):
                         lambda: bpfcanon.btf_canon(given),
                         lambda: bpfcanon.btf_show(given),
                         lambda: bpfcanon.btf_check(given),
-                        lambda: bpfcanon.Btf(given),
+                        lambda: Btf(given),
                         lambda: bpfcanon.btf_same(given, good),
                     ]
                     self.faults(calls, found, int(pos), 0, False)

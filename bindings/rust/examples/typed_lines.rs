@@ -1,5 +1,5 @@
-//! Prints a line for each instruction of a program, or for each type of a BTF file and for each of
-//! its items, with all fields.
+//! Prints the listing of a program or of a BTF file, made of decoded values. docs/FORMATS.md has the
+//! lines.
 //!
 //! ```text
 //! typed_lines insn little|big FILE
@@ -7,25 +7,14 @@
 //! ```
 
 use bpfcanon::btf::{Btf, Type};
-use bpfcanon::insn::{Insn, Operand, Program, WideOf};
-use bpfcanon::Order;
+use bpfcanon::insn::{AtomicOp, Insn, MovsxForm, Operand, Program, Reg, WideOf, Width};
 use std::error::Error;
-use std::io::{self, BufWriter, Write};
-use std::{env, fmt, fs, process};
+use std::fmt::{Debug, Write};
+use std::{env, fs, process};
 
-/// The name of a variant in lower case with underscores: `FetchAdd` is `fetch_add`.
-struct Snake<T>(T);
-
-impl<T: fmt::Debug> fmt::Display for Snake<T> {
-    fn fmt(&self, f: &mut fmt::Formatter<'_>) -> fmt::Result {
-        for (at, letter) in format!("{:?}", self.0).char_indices() {
-            if at > 0 && letter.is_ascii_uppercase() {
-                f.write_str("_")?;
-            }
-            write!(f, "{}", letter.to_ascii_lowercase())?;
-        }
-        Ok(())
-    }
+/// The name of a variant in lower case.
+fn lower(variant: impl Debug) -> String {
+    format!("{variant:?}").to_lowercase()
 }
 
 fn operand(arg: Operand) -> String {
@@ -35,127 +24,169 @@ fn operand(arg: Operand) -> String {
     }
 }
 
-fn wide(what: WideOf) -> String {
+/// What is added to the mnemonic of a 64-bit operation.
+fn suffix(width: Width) -> &'static str {
+    ["", "32"][usize::from(width == Width::W32)]
+}
+
+/// The letters of a `Size` or a `SmallSize`.
+fn letters(size: impl Debug) -> String {
+    lower(size).replace('d', "dw")
+}
+
+fn movsx(form: MovsxForm) -> String {
+    let name = lower(form).replacen("w64from", "movsx", 1);
+    name.strip_prefix("w32from").map_or(name.clone(), |bits| format!("movsx{bits}_32"))
+}
+
+fn atomic(op: AtomicOp) -> String {
+    let name = lower(op);
+    match name.strip_prefix("fetch") {
+        Some(rest) => format!("fetch_{rest}"),
+        None if name.ends_with("xchg") => name,
+        None => format!("atomic_{name}"),
+    }
+}
+
+fn wide(dst: Reg, what: WideOf) -> String {
     match what {
-        WideOf::Number(number) => format!("number({number})"),
-        WideOf::MapFd(fd) => format!("map_fd({fd})"),
-        WideOf::MapValueFd(fd, offset) => format!("map_value_fd({fd},{offset})"),
-        WideOf::VarAddr(id, fd) => format!("var_addr({id},{fd})"),
-        WideOf::CodeAddr(slots) => format!("code_addr({slots})"),
-        WideOf::MapIdx(index) => format!("map_idx({index})"),
-        WideOf::MapValueIdx(index, offset) => format!("map_value_idx({index},{offset})"),
+        WideOf::Number(number) => format!("lddw {dst}, {number}"),
+        WideOf::MapFd(fd) => format!("lddw_map {dst}, {fd}"),
+        WideOf::MapValueFd(fd, offset) => format!("lddw_map_value {dst}, {fd}, {offset}"),
+        WideOf::VarAddr(id, fd) => format!("lddw_var {dst}, {id}, {fd}"),
+        WideOf::CodeAddr(slots) => format!("lddw_code {dst}, {slots}"),
+        WideOf::MapIdx(index) => format!("lddw_idx {dst}, {index}"),
+        WideOf::MapValueIdx(index, offset) => format!("lddw_idx_value {dst}, {index}, {offset}"),
     }
 }
 
 #[rustfmt::skip]
 fn insn_line(insn: Insn) -> String {
     match insn {
-        Insn::Alu { width, op, dst, arg } => format!("alu width={} op={} dst={dst} arg={}", Snake(width), Snake(op), operand(arg)),
-        Insn::Movsx { form, dst, src } => format!("movsx form={} dst={dst} src={src}", Snake(form)),
-        Insn::Neg { width, dst } => format!("neg width={} dst={dst}", Snake(width)),
-        Insn::Swap { kind, bits, dst } => format!("swap kind={} bits={} dst={dst}", Snake(kind), Snake(bits)),
-        Insn::Jump { off } => format!("jump off={off}"),
-        Insn::JumpLong { imm } => format!("jump_long imm={imm}"),
-        Insn::Branch { width, op, dst, arg, off } =>
-            format!("branch width={} op={} dst={dst} arg={} off={off}", Snake(width), Snake(op), operand(arg)),
-        Insn::CallHelper { id } => format!("call_helper id={id}"),
-        Insn::CallLocal { imm } => format!("call_local imm={imm}"),
-        Insn::CallBtf { id, off } => format!("call_btf id={id} off={off}"),
+        Insn::Alu { width, op, dst, arg } => format!("{}{} {dst}, {}", lower(op), suffix(width), operand(arg)),
+        Insn::Movsx { form, dst, src } => format!("{} {dst}, {src}", movsx(form)),
+        Insn::Neg { width, dst } => format!("neg{} {dst}", suffix(width)),
+        Insn::Swap { kind, bits, dst } => format!("{}{} {dst}", lower(kind).replace("bytes", "swap"), &lower(bits)[1..]),
+        Insn::Jump { off } => format!("ja {off:+}"),
+        Insn::JumpLong { imm } => format!("ja32 {imm:+}"),
+        Insn::Branch { width, op, dst, arg, off } => format!("j{}{} {dst}, {}, {off:+}", lower(op), suffix(width), operand(arg)),
+        Insn::CallHelper { id } => format!("call {id}"),
+        Insn::CallLocal { imm } => format!("call_local {imm:+}"),
+        Insn::CallBtf { id, off } => format!("call_btf {id}, {off}"),
         Insn::Exit => "exit".into(),
-        Insn::Load { size, dst, src, off } => format!("load size={} dst={dst} src={src} off={off}", Snake(size)),
-        Insn::LoadSigned { size, dst, src, off } => format!("load_signed size={} dst={dst} src={src} off={off}", Snake(size)),
-        Insn::StoreImm { size, dst, off, imm } => format!("store_imm size={} dst={dst} off={off} imm={imm}", Snake(size)),
-        Insn::StoreReg { size, dst, src, off } => format!("store_reg size={} dst={dst} src={src} off={off}", Snake(size)),
-        Insn::Atomic { width, op, dst, src, off } =>
-            format!("atomic width={} op={} dst={dst} src={src} off={off}", Snake(width), Snake(op)),
-        Insn::Wide { dst, what } => format!("wide dst={dst} what={}", wide(what)),
-        Insn::PacketAbs { size, imm } => format!("packet_abs size={} imm={imm}", Snake(size)),
-        Insn::PacketInd { size, src, imm } => format!("packet_ind size={} src={src} imm={imm}", Snake(size)),
+        Insn::Load { size, dst, src, off } => format!("ldx{} {dst}, [{src}{off:+}]", letters(size)),
+        Insn::LoadSigned { size, dst, src, off } => format!("ldxs{} {dst}, [{src}{off:+}]", letters(size)),
+        Insn::StoreImm { size, dst, off, imm } => format!("st{} [{dst}{off:+}], {imm}", letters(size)),
+        Insn::StoreReg { size, dst, src, off } => format!("stx{} [{dst}{off:+}], {src}", letters(size)),
+        Insn::Atomic { width, op, dst, src, off } => format!("{}{} [{dst}{off:+}], {src}", atomic(op), suffix(width)),
+        Insn::Wide { dst, what } => wide(dst, what),
+        Insn::PacketAbs { size, imm } => format!("ldabs{} {imm}", letters(size)),
+        Insn::PacketInd { size, src, imm } => format!("ldind{} {src}, {imm}", letters(size)),
     }
+}
+
+/// A name in quotes, as in a type listing.
+fn quoted(name: &str) -> String {
+    let mut text = String::from("\"");
+    for it in name.chars() {
+        match it {
+            '"' | '\\' => text.extend(['\\', it]),
+            '\0'..='\x1f' | '\x7f' => write!(text, "\\x{:02x}", it as u32).unwrap(),
+            _ => text.push(it),
+        }
+    }
+    text + "\""
+}
+
+fn sign(signed: bool) -> &'static str {
+    ["unsigned", "signed"][usize::from(signed)]
 }
 
 #[rustfmt::skip]
-fn type_line(it: &Type<'_>) -> String {
+fn type_line(it: &Type<'_>, items: usize) -> String {
+    let name = quoted(it.name());
     match it {
-        Type::Void => "void".into(),
-        Type::Int { name, size, encoding, bit_offset, bits } =>
-            format!("int name={name} size={size} encoding={} bit_offset={bit_offset} bits={bits}", Snake(encoding)),
-        Type::Ptr { target } => format!("ptr target={target}"),
-        Type::Array { target, index, count } => format!("array target={target} index={index} count={count}"),
-        Type::Struct { name, size, .. } => format!("struct name={name} size={size}"),
-        Type::Union { name, size, .. } => format!("union name={name} size={size}"),
-        Type::Enum { name, signed, size, .. } => format!("enum name={name} signed={signed} size={size}"),
-        Type::Fwd { name, is_union } => format!("fwd name={name} is_union={is_union}"),
-        Type::Typedef { name, target } => format!("typedef name={name} target={target}"),
-        Type::Volatile { target } => format!("volatile target={target}"),
-        Type::Const { target } => format!("const target={target}"),
-        Type::Restrict { target } => format!("restrict target={target}"),
-        Type::Func { name, linkage, target } => format!("func name={name} linkage={} target={target}", Snake(linkage)),
-        Type::FuncProto { target, .. } => format!("func_proto target={target}"),
-        Type::Var { name, target, linkage } => format!("var name={name} target={target} linkage={}", Snake(linkage)),
-        Type::Datasec { name, size, .. } => format!("datasec name={name} size={size}"),
-        Type::Float { name, size } => format!("float name={name} size={size}"),
-        Type::DeclTag { name, flag, target, component } => {
-            let component = component.map_or("none".into(), |it| it.to_string());
-            format!("decl_tag name={name} flag={flag} target={target} component={component}")
+        Type::Void => panic!("void has no line"),
+        Type::Int { size, encoding, bit_offset, bits, .. } =>
+            format!("int {name} size={size} encoding={} offset={bit_offset} bits={bits}", lower(encoding)),
+        Type::Ptr { target } => format!("ptr type={target}"),
+        Type::Array { target, index, count } => format!("array type={target} index={index} count={count}"),
+        Type::Struct { size, .. } => format!("struct {name} size={size} items={items}"),
+        Type::Union { size, .. } => format!("union {name} size={size} items={items}"),
+        Type::Enum { signed, size, .. } => format!("enum {name} {} size={size} items={items}", sign(*signed)),
+        Type::Fwd { is_union, .. } => format!("fwd {name} {}", if *is_union { "union" } else { "struct" }),
+        Type::Typedef { target, .. } => format!("typedef {name} type={target}"),
+        Type::Volatile { target } => format!("volatile type={target}"),
+        Type::Const { target } => format!("const type={target}"),
+        Type::Restrict { target } => format!("restrict type={target}"),
+        Type::Func { linkage: it, target, .. } => format!("func {name} {} type={target}", lower(it)),
+        Type::FuncProto { target, .. } => format!("func_proto type={target} items={items}"),
+        Type::Var { target, linkage: it, .. } => format!("var {name} {} type={target}", lower(it)),
+        Type::Datasec { size, .. } => format!("datasec {name} size={size} items={items}"),
+        Type::Float { size, .. } => format!("float {name} size={size}"),
+        Type::DeclTag { flag, target, component, .. } => {
+            let component = component.map_or(-1, i32::from);
+            format!("decl_tag {name} flag={} type={target} component={component}", u8::from(*flag))
         }
-        Type::TypeTag { name, flag, target } => format!("type_tag name={name} flag={flag} target={target}"),
-        Type::Enum64 { name, signed, size, .. } => format!("enum64 name={name} signed={signed} size={size}"),
+        Type::TypeTag { flag, target, .. } => format!("type_tag {name} flag={} type={target}", u8::from(*flag)),
+        Type::Enum64 { signed, size, .. } => format!("enum64 {name} {} size={size} items={items}", sign(*signed)),
     }
 }
 
-/// A line for each member, value, parameter or entry of a type.
+/// The line of each member, value, parameter or entry.
 #[rustfmt::skip]
 fn item_lines(it: &Type<'_>) -> Vec<String> {
     match it {
         Type::Struct { members, .. } | Type::Union { members, .. } => members.iter().map(|it| {
-            format!("member name={} target={} bit_offset={} width={}", it.name, it.target, it.bit_offset, it.width)
+            format!("member {} type={} offset={} width={}", quoted(it.name), it.target, it.bit_offset, it.width)
         }).collect(),
         Type::Enum { signed, values, .. } | Type::Enum64 { signed, values, .. } => values.iter().map(|it| {
-            let value = if *signed { (it.value as i64).to_string() } else { it.value.to_string() };
-            format!("enum_value name={} value={value}", it.name)
+            let number = if *signed { (it.value as i64).to_string() } else { it.value.to_string() };
+            format!("value {} {number}", quoted(it.name))
         }).collect(),
         Type::FuncProto { params, .. } => params.iter().map(|it| {
-            format!("param name={} target={}", it.name, it.target)
+            format!("param {} type={}", quoted(it.name), it.target)
         }).collect(),
         Type::Datasec { entries, .. } => entries.iter().map(|it| {
-            format!("entry target={} offset={} size={}", it.target, it.offset, it.size)
+            format!("entry type={} offset={} size={}", it.target, it.offset, it.size)
         }).collect(),
         _ => Vec::new(),
     }
 }
 
-fn print_insns(order: Order, bytes: &[u8], mut out: impl Write) -> Result<(), Box<dyn Error>> {
-    for (offset, insn) in &Program::decode(order, bytes)? {
-        writeln!(out, "{offset} {}", insn_line(insn))?;
-    }
-    Ok(out.flush()?)
+/// The listing of a program.
+pub fn insn_listing(program: &Program<'_>) -> String {
+    program.iter().map(|(_, it)| insn_line(it) + "\n").collect()
 }
 
-fn print_types(file: &[u8], mut out: impl Write) -> Result<(), Box<dyn Error>> {
-    for (id, it) in &Btf::decode(file)? {
-        writeln!(out, "{id} {}", type_line(&it))?;
-        for line in item_lines(&it) {
-            writeln!(out, "  {line}")?;
-        }
+/// The listing of types.
+pub fn type_listing(btf: &Btf<'_>) -> String {
+    let mut lines = String::new();
+    for (id, it) in btf {
+        let items = item_lines(&it);
+        writeln!(lines, "[{id}] {}", type_line(&it, items.len())).unwrap();
+        items.iter().for_each(|it| writeln!(lines, "  {it}").unwrap());
     }
-    Ok(out.flush()?)
+    lines
 }
 
-fn run(words: &[&str]) -> Result<(), Box<dyn Error>> {
-    let out = BufWriter::new(io::stdout().lock());
+fn run(words: &[&str]) -> Result<String, Box<dyn Error>> {
     match words {
-        ["insn", order, path] => print_insns(order.parse()?, &fs::read(path)?, out),
-        ["btf", path] => print_types(&fs::read(path)?, out),
+        ["insn", order, path] => {
+            Ok(insn_listing(&Program::decode(order.parse()?, &fs::read(path)?)?))
+        }
+        ["btf", path] => Ok(type_listing(&Btf::decode(&fs::read(path)?)?)),
         _ => Err("usage: typed_lines insn little|big FILE, or typed_lines btf FILE".into()),
     }
 }
 
 fn main() {
     let words: Vec<String> = env::args().skip(1).collect();
-    let words: Vec<&str> = words.iter().map(String::as_str).collect();
-    if let Err(error) = run(&words) {
-        eprintln!("typed_lines: {error}");
-        process::exit(1);
+    match run(&words.iter().map(String::as_str).collect::<Vec<_>>()) {
+        Ok(text) => print!("{text}"),
+        Err(error) => {
+            eprintln!("typed_lines: {error}");
+            process::exit(1);
+        }
     }
 }

@@ -1,12 +1,16 @@
 //! The rows of testdata/vectors.tsv; testdata/README.md has the columns.
 
 mod rows;
+#[allow(dead_code)] // its main
+#[path = "../examples/typed_lines.rs"]
+mod typed_lines;
 
 use bpfcanon::btf::Btf;
 use bpfcanon::insn::Program;
 use bpfcanon::{btf, insn, Error, Fault, Order};
 use rows::{data, each_row, rows, text, ORDERS};
 use std::fmt::Debug;
+use typed_lines::{insn_listing, type_listing};
 
 /// The names of a group and of the group that it includes.
 fn brings(group: &str) -> String {
@@ -40,7 +44,13 @@ fn instructions() {
     each_row("insn", |row| {
         let (line, programs) = (&row[0], [data(&row[1]), data(&row[2])]);
         for (from, program) in ORDERS.into_iter().zip(&programs) {
+            let decoded = Program::decode(from, program).unwrap();
+            assert_eq!((insn_listing(&decoded), decoded.len()), (format!("{line}\n"), 1));
+            assert_eq!((decoded.offset(0), decoded.bytes(0)), (Some(0), Some(&program[..])));
+            assert_eq!(decoded.group(0).unwrap().to_string(), row[3], "{line}");
             for (to, written) in ORDERS.into_iter().zip(&programs) {
+                let insns = decoded.iter().map(|(_, it)| it);
+                assert_eq!(insn::encode(to, insns).as_ref(), Ok(written), "{line}");
                 assert_eq!(insn::canon(from, to, program).as_ref(), Ok(written), "{line}");
                 assert_eq!(insn::same(from, program, to, written), Ok(true), "{line}");
             }
@@ -100,7 +110,12 @@ fn types() {
     each_row("btf", |row| {
         let (name, canonical) = (&row[0], [data(&row[2]), data(&row[3])]);
         for file in [&data(&row[1]), &canonical[0], &canonical[1]] {
+            let decoded = Btf::decode(file).unwrap();
+            assert_eq!(type_listing(&decoded).as_bytes(), text(&row[5]), "{name}");
+            assert_eq!(decoded.len().to_string(), row[4], "{name}");
             for (to, written) in ORDERS.into_iter().zip(&canonical) {
+                let types = decoded.iter().map(|(_, it)| it);
+                assert_eq!(btf::encode(to, types).as_ref(), Ok(written), "{name}");
                 assert_eq!(btf::canon(to, file).as_ref(), Ok(written), "{name}");
             }
             assert_eq!(btf::show(file).unwrap().as_bytes(), text(&row[5]), "{name}");

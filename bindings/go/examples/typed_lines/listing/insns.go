@@ -1,4 +1,6 @@
-package bpfcanon_test
+// Package listing writes listings of decoded values, without the calls of the library that write them.
+// docs/FORMATS.md has the lines.
+package listing
 
 import (
 	"fmt"
@@ -7,7 +9,7 @@ import (
 	"bpfcanon"
 )
 
-// The mnemonic letters of sizes, as docs/FORMATS.md has them.
+// The mnemonic letters of sizes.
 var sizeLetters = map[bpfcanon.Size]string{bpfcanon.SizeB: "b", bpfcanon.SizeH: "h", bpfcanon.SizeW: "w", bpfcanon.SizeD: "dw"}
 
 // The mnemonics of sign-extending moves.
@@ -16,20 +18,17 @@ var movsxMnemonics = map[bpfcanon.MovsxForm]string{
 	bpfcanon.W64From32: "movsx32",
 }
 
-// The suffix of a width, "(32)" in docs/FORMATS.md.
-func suffix(width bpfcanon.Width) string {
-	if width == bpfcanon.W32 {
-		return "32"
+// Insns returns the listing of instructions.
+func Insns(insns []bpfcanon.Insn) string {
+	var text []byte
+	for _, it := range insns {
+		text = append(text, insnLine(it)+"\n"...)
 	}
-	return ""
+	return string(text)
 }
 
-func memory(base bpfcanon.Reg, offset int16) string {
-	return fmt.Sprintf("[%v%+d]", base, offset)
-}
-
-// The line of an instruction in a listing, by the table of docs/FORMATS.md and without the library.
-func lineOf(insn bpfcanon.Insn) string {
+// insnLine returns the line of an instruction.
+func insnLine(insn bpfcanon.Insn) string {
 	switch it := insn.(type) {
 	case bpfcanon.ALU:
 		return fmt.Sprintf("%v%s %v, %v", it.Op, suffix(it.Width), it.Dst, it.Arg)
@@ -54,28 +53,28 @@ func lineOf(insn bpfcanon.Insn) string {
 	case bpfcanon.Exit:
 		return "exit"
 	case bpfcanon.Wide:
-		return wideLine(it)
+		return "lddw" + fmt.Sprintf(wideFormat(it.What), it.Dst)
 	}
 	return memoryLine(insn)
 }
 
-// The line of an instruction that reads or writes memory.
+// memoryLine returns the line of an instruction that reads or writes memory.
 func memoryLine(insn bpfcanon.Insn) string {
 	switch it := insn.(type) {
 	case bpfcanon.Load:
-		return fmt.Sprintf("ldx%s %v, %s", sizeLetters[it.Size], it.Dst, memory(it.Src, it.Off))
+		return fmt.Sprintf("ldx%s %v, [%v%+d]", sizeLetters[it.Size], it.Dst, it.Src, it.Off)
 	case bpfcanon.LoadSigned:
-		return fmt.Sprintf("ldxs%s %v, %s", sizeLetters[it.Size], it.Dst, memory(it.Src, it.Off))
+		return fmt.Sprintf("ldxs%s %v, [%v%+d]", sizeLetters[it.Size], it.Dst, it.Src, it.Off)
 	case bpfcanon.StoreImm:
-		return fmt.Sprintf("st%s %s, %d", sizeLetters[it.Size], memory(it.Dst, it.Off), it.Imm)
+		return fmt.Sprintf("st%s [%v%+d], %d", sizeLetters[it.Size], it.Dst, it.Off, it.Imm)
 	case bpfcanon.StoreReg:
-		return fmt.Sprintf("stx%s %s, %v", sizeLetters[it.Size], memory(it.Dst, it.Off), it.Src)
+		return fmt.Sprintf("stx%s [%v%+d], %v", sizeLetters[it.Size], it.Dst, it.Off, it.Src)
 	case bpfcanon.Atomic:
 		name := it.Op.String()
-		if !strings.HasPrefix(name, "fetch_") && it.Op != bpfcanon.AtomicXchg && it.Op != bpfcanon.AtomicCmpxchg {
+		if !strings.HasPrefix(name, "fetch_") && !strings.HasSuffix(name, "xchg") {
 			name = "atomic_" + name
 		}
-		return fmt.Sprintf("%s%s %s, %v", name, suffix(it.Width), memory(it.Dst, it.Off), it.Src)
+		return fmt.Sprintf("%s%s [%v%+d], %v", name, suffix(it.Width), it.Dst, it.Off, it.Src)
 	case bpfcanon.PacketAbs:
 		return fmt.Sprintf("ldabs%s %d", sizeLetters[it.Size], it.Imm)
 	case bpfcanon.PacketInd:
@@ -84,32 +83,31 @@ func memoryLine(insn bpfcanon.Insn) string {
 	return fmt.Sprintf("%T", insn)
 }
 
-// The line of a wide load.
-func wideLine(it bpfcanon.Wide) string {
-	switch what := it.What.(type) {
-	case bpfcanon.Number:
-		return fmt.Sprintf("lddw %v, %d", it.Dst, uint64(what))
-	case bpfcanon.MapFD:
-		return fmt.Sprintf("lddw_map %v, %d", it.Dst, what.FD)
-	case bpfcanon.MapValueFD:
-		return fmt.Sprintf("lddw_map_value %v, %d, %d", it.Dst, what.FD, what.Offset)
-	case bpfcanon.VarAddr:
-		return fmt.Sprintf("lddw_var %v, %d, %d", it.Dst, what.ID, what.Next)
-	case bpfcanon.CodeAddr:
-		return fmt.Sprintf("lddw_code %v, %d", it.Dst, what.Offset)
-	case bpfcanon.MapIdx:
-		return fmt.Sprintf("lddw_idx %v, %d", it.Dst, what.Index)
-	case bpfcanon.MapValueIdx:
-		return fmt.Sprintf("lddw_idx_value %v, %d, %d", it.Dst, what.Index, what.Offset)
+// suffix returns what is added to the mnemonic of a 64-bit operation.
+func suffix(width bpfcanon.Width) string {
+	if width == bpfcanon.W32 {
+		return "32"
 	}
-	return fmt.Sprintf("%T", it.What)
+	return ""
 }
 
-// The listing of a program.
-func listingOf(program *bpfcanon.Program) string {
-	var lines []byte
-	for i := 0; i < program.Len(); i++ {
-		lines = append(lines, lineOf(program.At(i))+"\n"...)
+// wideFormat returns the line of a wide load after "lddw", with a verb for the register.
+func wideFormat(what bpfcanon.WideOf) string {
+	switch what := what.(type) {
+	case bpfcanon.Number:
+		return fmt.Sprintf(" %%v, %d", uint64(what))
+	case bpfcanon.MapFD:
+		return fmt.Sprintf("_map %%v, %d", what.FD)
+	case bpfcanon.MapValueFD:
+		return fmt.Sprintf("_map_value %%v, %d, %d", what.FD, what.Offset)
+	case bpfcanon.VarAddr:
+		return fmt.Sprintf("_var %%v, %d, %d", what.ID, what.Next)
+	case bpfcanon.CodeAddr:
+		return fmt.Sprintf("_code %%v, %d", what.Offset)
+	case bpfcanon.MapIdx:
+		return fmt.Sprintf("_idx %%v, %d", what.Index)
+	case bpfcanon.MapValueIdx:
+		return fmt.Sprintf("_idx_value %%v, %d, %d", what.Index, what.Offset)
 	}
-	return string(lines)
+	return fmt.Sprintf("%T", what)
 }
