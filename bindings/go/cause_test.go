@@ -40,14 +40,9 @@ func TestCausesAreThoseOfTheHeader(t *testing.T) {
 
 func TestErrorsNameThePlaceAndTheCause(t *testing.T) {
 	for want, fault := range map[string]bpfcanon.FaultError{
-		"bpfcanon: byte 9: Opcode: no instruction has this opcode":               {Cause: bpfcanon.ErrInsnOpcode, Offset: 9},
-		"bpfcanon: line 2: Word: no instruction has this mnemonic":               {Cause: bpfcanon.ErrLineWord, Line: 2},
-		"bpfcanon: second input: byte 2: Version: the version is not 1":          {Cause: bpfcanon.ErrBTFVersion, Offset: 2, Second: true},
-		"bpfcanon: byte 0: Truncated: the input ends inside an instruction":      {Cause: bpfcanon.ErrInsnTruncated},
-		"bpfcanon: byte 40: Vlen: vlen is not 0 on a kind without items":         {Cause: bpfcanon.ErrBTFVlen, Offset: 40},
-		"bpfcanon: line 1: Range: a number is out of the range of its field":     {Cause: bpfcanon.ErrLineRange, Line: 1},
-		"bpfcanon: second input: byte 8: Opcode: no instruction has this opcode": {Cause: bpfcanon.ErrInsnOpcode, Offset: 8, Second: true},
-		"bpfcanon: byte 24: KindNumber: the kind is 0 or over 19":                {Cause: bpfcanon.ErrBTFKindNumber, Offset: 24},
+		"bpfcanon: byte 9: Opcode: no instruction has this opcode":      {Cause: bpfcanon.ErrInsnOpcode, Offset: 9},
+		"bpfcanon: line 2: Word: no instruction has this mnemonic":      {Cause: bpfcanon.ErrLineWord, Line: 2},
+		"bpfcanon: second input: byte 2: Version: the version is not 1": {Cause: bpfcanon.ErrBTFVersion, Offset: 2, Second: true},
 	} {
 		err := error(&fault)
 		if err.Error() != want {

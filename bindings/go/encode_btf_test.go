@@ -75,11 +75,6 @@ func TestTypesAreEncodedAndDecoded(t *testing.T) {
 	}
 }
 
-func TestNoTypesAreEncoded(t *testing.T) {
-	got, err := bpfcanon.EncodeBTF(bpfcanon.Big, nil)
-	wantBytes(t, "none encoded", got, err, btf(binary.BigEndian, nil, "\x00"))
-}
-
 func structOf(members ...bpfcanon.Member) bpfcanon.Type {
 	return bpfcanon.Struct{Size: 1 << 30, Members: members}
 }

@@ -141,35 +141,8 @@ func checkEncoding(t *testing.T, insn bpfcanon.Insn) bool {
 	return encodings > 0
 }
 
-func FuzzDecodeBTF(f *testing.F) {
-	for _, seed := range typeSeeds(f) {
-		f.Add(seed)
-	}
-	f.Fuzz(func(t *testing.T, file []byte) { checkTypes(t, file) })
-}
-
-func FuzzDecodeInsns(f *testing.F) {
-	for order, seed := range insnSeeds(f) {
-		f.Add(order == int(bpfcanon.Big), seed)
-	}
-	f.Fuzz(func(t *testing.T, isBig bool, program []byte) {
-		order := bpfcanon.Little
-		if isBig {
-			order = bpfcanon.Big
-		}
-		checkInsns(t, order, program)
-	})
-}
-
-func FuzzEncodeInsns(f *testing.F) {
-	f.Add(uint8(0), uint8(0), uint8(64), uint8(1), uint8(2), int16(0), int32(0), int32(0))
-	f.Fuzz(func(t *testing.T, form, op, bits, dst, src uint8, off int16, imm, next int32) {
-		checkEncoding(t, insnOf(form, op, bits, dst, src, off, imm, next))
-	})
-}
-
 // Files with each kind of type.
-func typeSeeds(t testing.TB) (seeds [][]byte) {
+func typeSeeds(t *testing.T) (seeds [][]byte) {
 	seeds = [][]byte{load(t, "flow_table.little.btf"), load(t, "flow_table.big.btf")}
 	for _, row := range vectors(t, "btf") {
 		seeds = append(seeds, data(t, row[1]))
@@ -178,7 +151,7 @@ func typeSeeds(t testing.TB) (seeds [][]byte) {
 }
 
 // A program with each instruction, in each byte order.
-func insnSeeds(t testing.TB) (seeds [2][]byte) {
+func insnSeeds(t *testing.T) (seeds [2][]byte) {
 	for _, row := range vectors(t, "insn") {
 		for order := range seeds {
 			seeds[order] = append(seeds[order], data(t, row[1+order])...)

@@ -9,8 +9,8 @@ import (
 	"bpfcanon"
 )
 
-// The members of all structs, with the kinds of their types.
-func ExampleDecodeBTF() {
+// flowTable returns the types of a file that clang made.
+func flowTable() *bpfcanon.BTF {
 	file, err := os.ReadFile("../../testdata/flow_table.little.btf")
 	if err != nil {
 		log.Fatal(err)
@@ -19,6 +19,12 @@ func ExampleDecodeBTF() {
 	if err != nil {
 		log.Fatal(err)
 	}
+	return types
+}
+
+// The members of all structs, with the kinds of their types.
+func ExampleDecodeBTF() {
+	types := flowTable()
 	for _, it := range types.Types() {
 		it, ok := it.(bpfcanon.Struct)
 		if !ok {
@@ -44,14 +50,7 @@ func ExampleDecodeBTF() {
 
 // The values of an enum that has a name.
 func ExampleBTF_ByName() {
-	file, err := os.ReadFile("../../testdata/flow_table.little.btf")
-	if err != nil {
-		log.Fatal(err)
-	}
-	types, err := bpfcanon.DecodeBTF(file)
-	if err != nil {
-		log.Fatal(err)
-	}
+	types := flowTable()
 	for _, id := range types.ByName("direction") {
 		it, err := types.Type(id)
 		if err != nil {
@@ -70,14 +69,7 @@ func ExampleBTF_ByName() {
 
 // The type of a variable without its qualifiers.
 func ExampleBTF_Resolve() {
-	file, err := os.ReadFile("../../testdata/flow_table.little.btf")
-	if err != nil {
-		log.Fatal(err)
-	}
-	types, err := bpfcanon.DecodeBTF(file)
-	if err != nil {
-		log.Fatal(err)
-	}
+	types := flowTable()
 	misses := types.ByName("misses")[0]
 	it, err := types.Type(misses)
 	if err != nil {

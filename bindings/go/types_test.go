@@ -107,8 +107,10 @@ func TestAllocationsOfTypes(t *testing.T) {
 	}
 }
 
-func TestGoroutinesReadTheSameTypes(t *testing.T) {
-	b, want := decode(t, load(t, "flow_table.little.btf")), decode(t, load(t, "flow_table.big.btf"))
+// The types are read, and their file is, at the same time.
+func TestGoroutinesShareTypesAndInputs(t *testing.T) {
+	file, program, instructions := load(t, "flow_table.big.btf"), load(t, "hash_words.big.bin"), load(t, "hash_words.little.bin")
+	b, want, canonical := decode(t, load(t, "flow_table.little.btf")), decode(t, file), must(bpfcanon.CanonBTF(bpfcanon.Little, file))
 	var running sync.WaitGroup
 	for thread := 0; thread < 8; thread++ {
 		running.Add(1)
@@ -116,6 +118,12 @@ func TestGoroutinesReadTheSameTypes(t *testing.T) {
 			defer running.Done()
 			if !reflect.DeepEqual(b.Types(), want.Types()) {
 				t.Error("the types differ")
+			}
+			for k := 0; k < 200; k++ {
+				got, err := bpfcanon.CanonBTF(bpfcanon.Little, file)
+				wantBytes(t, "types", got, err, canonical)
+				got, err = bpfcanon.CanonInsns(bpfcanon.Big, bpfcanon.Little, program)
+				wantBytes(t, "instructions", got, err, instructions)
 			}
 			for id := bpfcanon.ID(1); int(id) <= b.Len(); id++ {
 				if name := must(want.Name(id)); !reflect.DeepEqual(b.ByName(name), want.ByName(name)) {

@@ -133,9 +133,13 @@ func wantDecoded(t *testing.T, line string, order bpfcanon.Order, programs [][]b
 }
 
 func TestInstructions(t *testing.T) {
+	exit := unhex(t, insns[5].little)
 	eachVector(t, "insn", func(t *testing.T, row []string) {
 		line, programs := row[0], [][]byte{data(t, row[1]), data(t, row[2])}
 		for _, order := range orders {
+			if same, err := bpfcanon.SameInsns(order, programs[order], bpfcanon.Big, exit); same != (line == "exit") || err != nil {
+				t.Errorf("%s, compared with exit: %v, %v", line, same, err)
+			}
 			for _, to := range orders {
 				got, err := bpfcanon.CanonInsns(order, to, programs[order])
 				wantBytes(t, line, got, err, programs[to])
@@ -196,6 +200,7 @@ func TestListings(t *testing.T) {
 }
 
 func TestTypes(t *testing.T) {
+	first := vectors(t, "btf")[0]
 	eachVector(t, "btf", func(t *testing.T, row []string) {
 		canonical := [][]byte{data(t, row[2]), data(t, row[3])}
 		for _, given := range [][]byte{data(t, row[1]), canonical[0], canonical[1]} {
@@ -208,8 +213,10 @@ func TestTypes(t *testing.T) {
 			if count, err := bpfcanon.CheckBTF(given); strconv.Itoa(count) != row[4] || err != nil {
 				t.Errorf("%s: %d types, %v", row[0], count, err)
 			}
-			if same, err := bpfcanon.SameBTF(given, canonical[0]); !same || err != nil {
-				t.Errorf("%s, compared: %v, %v", row[0], same, err)
+			for _, other := range [][]string{row, first} {
+				if same, err := bpfcanon.SameBTF(given, data(t, other[2])); same != (row[2] == other[2]) || err != nil {
+					t.Errorf("%s, compared with %s: %v, %v", row[0], other[0], same, err)
+				}
 			}
 			decoded, err := bpfcanon.DecodeBTF(given)
 			if err != nil {

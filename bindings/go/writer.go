@@ -87,14 +87,13 @@ func (w *InsnWriter) put(piece []byte) int {
 			return 0
 		}
 	}
-	w.err = w.errorOf(front)
+	w.err = w.moved(errorOf(front, insnCause))
 	w.done += uint64(front.Read)
 	return front.Read
 }
 
-// errorOf returns the error of an answer about bytes that follow the instructions read so far.
-func (w *InsnWriter) errorOf(front capi.Answer) error {
-	err := errorOf(front, insnCause)
+// moved returns the error of a call on the bytes that follow the instructions read so far, with its offset in the stream.
+func (w *InsnWriter) moved(err error) error {
 	var fault *FaultError
 	if errors.As(err, &fault) {
 		fault.Offset += w.done
@@ -113,10 +112,7 @@ func (w *InsnWriter) Close() error {
 		return w.err
 	}
 	_, err := CanonInsns(w.order, w.to, w.held)
-	var fault *FaultError
-	if errors.As(err, &fault) {
-		fault.Offset += w.done
-	}
+	err = w.moved(err)
 	w.err = err
 	if err == nil {
 		w.err = ErrClosed

@@ -71,9 +71,6 @@ func TestAFaultComesAfterTheInstructionsBeforeIt(t *testing.T) {
 		if !bytes.Equal(out.Bytes(), good) {
 			t.Errorf("pieces of %d: %x", piece, out.Bytes())
 		}
-		_, err := w.Write(unhex(t, insns[5].big))
-		wantFault(t, "Write after a fault", err, want)
-		wantFault(t, "Close after a fault", w.Close(), want)
 	}
 }
 
