@@ -33,43 +33,11 @@ from .insn import Front, insn_canon, insn_front, insn_groups, insn_read, insn_sa
 __version__ = "0.1.0"
 
 __all__ = [
-    "BpfcanonError",
-    "Btf",
-    "BtfCause",
-    "Buffer",
-    "Cause",
-    "EncodeBtfError",
-    "EncodeInsnError",
-    "FaultError",
-    "Front",
-    "Group",
-    "InsnCause",
-    "LineCause",
-    "NoSuchTypeError",
-    "ObjectCause",
-    "Order",
-    "OrderError",
-    "OtherCause",
-    "OutOfMemoryError",
-    "Program",
-    "TypeCycleError",
-    "UnknownCauseError",
-    "UnknownRecordError",
-    "btf_canon",
-    "btf_check",
-    "btf_encode",
-    "btf_same",
-    "btf_show",
-    "insn_canon",
-    "insn_encode",
-    "insn_front",
-    "insn_groups",
-    "insn_read",
-    "insn_same",
-    "insn_show",
-    "insn_stream",
-    "insns",
-    "library_version",
+    "BpfcanonError", "Btf", "BtfCause", "Buffer", "Cause", "EncodeBtfError", "EncodeInsnError", "FaultError", "Front",
+    "Group", "InsnCause", "LineCause", "NoSuchTypeError", "ObjectCause", "Order", "OrderError", "OtherCause",
+    "OutOfMemoryError", "Program", "TypeCycleError", "UnknownCauseError", "UnknownRecordError", "btf_canon",
+    "btf_check", "btf_encode", "btf_same", "btf_show", "insn_canon", "insn_encode", "insn_front", "insn_groups",
+    "insn_read", "insn_same", "insn_show", "insn_stream", "insns", "library_version",
 ]
 
 # Typed values are loaded when they are first used: their classes take longer to make than the rest of the package.
@@ -87,7 +55,6 @@ else:
 
     def __dir__():
         return sorted({*globals(), *_TYPED})
-
 
 
 def library_version() -> str:

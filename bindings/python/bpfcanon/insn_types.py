@@ -311,23 +311,6 @@ class PacketInd:
 
 
 Insn = Union[
-    Alu,
-    Movsx,
-    Neg,
-    Swap,
-    Jump,
-    JumpLong,
-    Branch,
-    CallHelper,
-    CallLocal,
-    CallBtf,
-    Exit,
-    Load,
-    LoadSigned,
-    StoreImm,
-    StoreReg,
-    Atomic,
-    Wide,
-    PacketAbs,
-    PacketInd,
+    Alu, Movsx, Neg, Swap, Jump, JumpLong, Branch, CallHelper, CallLocal, CallBtf, Exit, Load, LoadSigned, StoreImm,
+    StoreReg, Atomic, Wide, PacketAbs, PacketInd,
 ]

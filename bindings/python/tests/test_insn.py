@@ -1,12 +1,9 @@
 """Instructions and listings, with the bytes of RFC 9669."""
 
 import unittest
-from typing import Any
-from unittest import mock
 
 import bpfcanon
-from bpfcanon import FaultError, InsnCause, Order, OrderError, OutOfMemoryError, _library
-from bpfcanon.header import Answer, Status
+from bpfcanon import FaultError, InsnCause, Order
 
 from .samples import INSNS, load, unhex
 
@@ -18,13 +15,6 @@ class Instructions(unittest.TestCase):
         little = unhex(INSNS[0][1])
         self.assertEqual(bpfcanon.insn_canon(little), little)
         self.assertEqual(bpfcanon.insn_read("mov r1, r2"), little)
-
-    def test_programs_of_one_length_may_be_different(self) -> None:
-        mov, mov_big = unhex(INSNS[0][1]), unhex(INSNS[0][2])
-        for first, second, is_same in (mov, mov_big, True), (mov, mov, False), (mov, EXIT, False), (EXIT, mov_big, False):
-            self.assertIs(bpfcanon.insn_same(first, second, second_order=Order.BIG), is_same)
-        for second, is_same in (mov, True), (EXIT, False):
-            self.assertIs(bpfcanon.insn_same(mov, second), is_same)
 
     def test_comments_of_a_listing_may_hold_any_bytes(self) -> None:
         self.assertEqual(bpfcanon.insn_read("exit ; \u00e9\n"), EXIT)
@@ -58,26 +48,6 @@ class Streams(unittest.TestCase):
             with self.assertRaises(FaultError) as raised:
                 list(bpfcanon.insn_stream([EXIT, unhex(end)], order=Order.BIG))
             self.assertEqual(raised.exception.args, (InsnCause.TRUNCATED, pos, 0, False))
-
-    def test_an_order_that_is_none_is_refused(self) -> None:
-        number: Any = 2
-        streams: list[list[bytes]] = [[], [EXIT], [EXIT[:3]], [EXIT, EXIT]]
-        for pieces in streams:
-            with self.assertRaises(OrderError):
-                next(bpfcanon.insn_stream(pieces, order=number))
-            with self.assertRaises(OrderError):
-                next(bpfcanon.insn_stream(pieces, to=number))
-
-    def test_memory_may_run_out_in_each_piece_and_at_the_end(self) -> None:
-        good = Answer(Status.DONE, read=8), memoryview(EXIT)
-        for count in range(4):
-            answers = [good] * count + [(Answer(Status.OUT_OF_MEMORY), memoryview(b""))]
-            with mock.patch.object(_library, "write", side_effect=answers):
-                stream, output = bpfcanon.insn_stream([EXIT] * 3), b""
-                with self.assertRaises(OutOfMemoryError):
-                    for canonical in stream:
-                        output += canonical
-            self.assertEqual(output, EXIT * count)
 
     def test_the_start_of_a_piece_has_its_fault(self) -> None:
         front = bpfcanon.insn_front(EXIT + unhex("04 10 0000 05000000"))

@@ -13,11 +13,11 @@ import subprocess
 import sys
 import tempfile
 import unittest
-from typing import Any, Optional
+from typing import Any, Callable, Optional
 from unittest import mock
 
 import bpfcanon
-from bpfcanon import BtfCause, FaultError, InsnCause, LineCause, ObjectCause, Order, OrderError, OutOfMemoryError, _library, objects
+from bpfcanon import BtfCause, FaultError, InsnCause, LineCause, ObjectCause, OrderError, OutOfMemoryError, _library
 from bpfcanon.errors import error_of
 from bpfcanon.header import Answer, Status
 
@@ -55,7 +55,7 @@ class Inputs(unittest.TestCase):
 
     def test_what_is_no_buffer_is_refused(self) -> None:
         for value in "exit", None, 8, [1, 2]:
-            for call in bpfcanon.insn_canon, bpfcanon.insn_groups, bpfcanon.btf_check, bpfcanon.btf_canon:
+            for call in bpfcanon.insn_canon, bpfcanon.insn_groups, bpfcanon.btf_check, bpfcanon.Program, bpfcanon.Btf, bpfcanon.insns:
                 with self.assertRaises(TypeError):
                     call(value)  # type: ignore[operator]
         # The pieces of a single buffer are numbers.
@@ -64,14 +64,22 @@ class Inputs(unittest.TestCase):
                 list(bpfcanon.insn_stream(pieces))  # type: ignore[arg-type]
 
     def test_a_number_that_is_no_order_is_refused(self) -> None:
+        types, streams = load("flow_table.big.btf"), [[], [bytes(3)], [bytes(8)]]
         orders: list[Any] = [2, -1, 1 << 31, (1 << 32) + 1, None, "big", b"\1", 1.5]
         for order in orders:
-            with self.assertRaises(OrderError):
-                bpfcanon.insn_canon(b"", order=order)
-            with self.assertRaises(OrderError):
-                bpfcanon.btf_canon(load("flow_table.big.btf"), to=order)
-            with self.assertRaises(OrderError):
-                bpfcanon.insn_encode([], to=order)
+            calls: list[Callable[[], object]] = [
+                lambda: bpfcanon.insn_canon(b"", order=order),
+                lambda: bpfcanon.insn_encode([], to=order),
+                lambda: bpfcanon.Program(b"", order=order),
+                lambda: bpfcanon.insns(b"", order=order),
+                lambda: bpfcanon.btf_canon(types, to=order),
+                lambda: bpfcanon.btf_encode([], to=order),
+                *(lambda pieces=it: next(bpfcanon.insn_stream(pieces, order=order)) for it in streams),
+                *(lambda pieces=it: next(bpfcanon.insn_stream(pieces, to=order)) for it in streams),
+            ]
+            for call in calls:
+                with self.assertRaises(OrderError):
+                    call()
 
 
 class Faults(unittest.TestCase):
@@ -132,7 +140,6 @@ class Faults(unittest.TestCase):
         for kind in InsnCause, LineCause, BtfCause, ObjectCause:
             self.assertEqual([member.label.lower() for member in kind], [member.name.replace("_", "").lower() for member in kind])
             self.assertGreater(min(len(member.text) for member in kind), 10)
-
 
 
 class Calls:
@@ -205,7 +212,7 @@ class Library(unittest.TestCase):
 
     def test_each_exported_name_is_there(self) -> None:
         for name in bpfcanon.__all__:
-            self.assertTrue(hasattr(bpfcanon, name), name)
+            self.assertTrue(hasattr(bpfcanon, name) and name in dir(bpfcanon), name)
 
 
 @unittest.skipUnless(importlib.util.find_spec("elftools"), "pyelftools")

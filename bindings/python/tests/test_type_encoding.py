@@ -6,7 +6,7 @@ import pickle
 import unittest
 from typing import Any, Optional
 
-from bpfcanon import Btf, BtfCause, EncodeBtfError, Order, OrderError, btf_canon, btf_encode
+from bpfcanon import Btf, BtfCause, EncodeBtfError, Order, btf_canon, btf_encode
 from bpfcanon.types import Array, Const, Datasec, DeclTag, Encoding, Entry, Enum, Enum64, EnumValue, Float, Func, FuncProto, Fwd, Int
 from bpfcanon.types import Linkage, Member, Param, Ptr, Restrict, Struct, Type, TypeTag, Typedef, Union, Var, Void, Volatile
 
@@ -113,13 +113,6 @@ class Encoded(unittest.TestCase):
             self.assertEqual(btf_encode(iter(Btf(want)[1:]), to=to), want)
             self.assertEqual(list(Btf(want)[1:]), types)
 
-    def test_no_types(self) -> None:
-        self.assertEqual(btf_encode([], to=Order.BIG), btf(">", ([], b"\0")))
-
-    def test_a_number_that_is_no_order_is_refused(self) -> None:
-        number: Any = 2
-        with self.assertRaises(OrderError):
-            btf_encode([], to=number)
 
 
 class Refused(unittest.TestCase):

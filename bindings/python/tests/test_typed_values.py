@@ -7,12 +7,14 @@ import pickle
 import subprocess
 import sys
 import unittest
-from typing import Any, Callable
+from collections.abc import Sequence
+from dataclasses import fields
+from typing import Any, Callable, get_args
 
 import bpfcanon
-from bpfcanon import Btf, EncodeInsnError, NoSuchTypeError, Order, OrderError, Program, TypeCycleError, insn_encode, insns
-from bpfcanon.insn_types import Alu, AluOp, AtomicOp, Atomic, Branch, BranchOp, CallBtf, CallHelper, Exit, Imm, Insn, Jump, Load, LoadSigned
-from bpfcanon.insn_types import MapFd, MapValueFd, Number, Reg, Size, SmallSize, StoreImm, Wide, Width
+from bpfcanon import Btf, EncodeInsnError, NoSuchTypeError, Order, Program, TypeCycleError, insn_encode, insns
+from bpfcanon.insn_types import Alu, AluOp, AtomicOp, Atomic, Branch, BranchOp, CallBtf, Exit, Imm, Insn, Jump, Load, LoadSigned
+from bpfcanon.insn_types import MapValueFd, Number, Reg, Size, StoreImm, Wide, Width
 from bpfcanon.types import Const, Encoding, Int, Member, Struct, Typedef, Void
 
 from .samples import INSNS, btf, load, unhex
@@ -96,23 +98,10 @@ class Programs(unittest.TestCase):
                 insn_encode(values)
             self.assertEqual(raised.exception.index, 1)
 
-    def test_a_number_that_is_no_order_is_refused(self) -> None:
-        number: Any = 2
-        calls: list[Callable[[], object]] = [lambda: Program(b"", order=number), lambda: insn_encode([], to=number)]
-        calls.append(lambda: insns(b"", order=number))
-        for call in calls:
-            with self.assertRaises(OrderError):
-                call()
-
     def test_nothing_is_encoded_as_nothing(self) -> None:
         self.assertEqual(insn_encode([]), b"")
         self.assertEqual(insn_encode(iter(VALUES)), insn_encode(tuple(VALUES)))
 
-    def test_what_is_no_buffer_is_refused(self) -> None:
-        for value in "exit", None, 8, [1, 2]:
-            for call in Program, Btf, insns:
-                with self.assertRaises(TypeError):
-                    call(value)  # type: ignore[operator]
 
 
 class Types(unittest.TestCase):
@@ -178,12 +167,17 @@ class Types(unittest.TestCase):
 
     def test_items_are_a_sequence(self) -> None:
         flow = Btf(load("flow_table.little.btf"))[3]
-        assert isinstance(flow, Struct)
+        assert isinstance(flow, Struct) and isinstance(flow.members, Sequence)
         self.assertEqual([it.name for it in flow.members[-2:]], ["host", "name"])
         self.assertEqual((len(flow.members), flow.members[0].name, flow.members[-1].name), (7, "source", "name"))
         for index in 7, -8:
             with self.assertRaises(IndexError):
                 flow.members[index]
+
+    @unittest.skipIf(sys.version_info < (3, 10), "there is no match statement")
+    def test_values_are_matched_by_position(self) -> None:
+        for kind in *get_args(Insn), *get_args(bpfcanon.types.Type), Member, MapValueFd, Imm:
+            self.assertEqual(kind.__match_args__, tuple(it.name for it in fields(kind)))
 
     def test_values_are_frozen(self) -> None:
         value: Any = Typedef("t", 1)
@@ -192,28 +186,12 @@ class Types(unittest.TestCase):
                 setattr(value, name, 2)
 
 
-class Statements(unittest.TestCase):
-    @unittest.skipIf(sys.version_info < (3, 10), "there is no match statement")
-    def test_values_are_matched_by_position(self) -> None:
-        from .match_statement import described
-
-        right = [(Exit(), "exit"), (CallHelper(5), "helper 5"), (Alu(Width.W32, AluOp.ADD, Reg.R1, Imm(2)), "r1 += 2"), (Jump(1), "")]
-        right += [(Wide(Reg.R2, MapFd(3)), "map 3")]
-        for value, text in right:
-            self.assertEqual(described(value), text)
-        self.assertEqual(described(Struct("s", 4, (Member("m", 1, 0, 0),))), "s.m")
-        self.assertEqual(described(LoadSigned(SmallSize.B, Reg.R0, Reg.R1, 4)), "b at 4")
-
-
 class Package(unittest.TestCase):
     def test_typed_values_are_loaded_when_they_are_used(self) -> None:
         script = "import sys, bpfcanon; loaded = [it for it in sys.modules if it.startswith('bpfcanon.')]; "
         script += "print('dataclasses' in sys.modules, *sorted(it[9:] for it in loaded)); bpfcanon.Btf; bpfcanon.insns"
         done = subprocess.run([sys.executable, "-c", script], capture_output=True, text=True, check=True)
         self.assertEqual(done.stdout.split(), ["False", "_library", "btf", "causes", "errors", "header", "insn"])
-
-    def test_typed_values_are_listed(self) -> None:
-        self.assertEqual(set(bpfcanon.__all__) - set(dir(bpfcanon)), set())
 
     def test_no_other_name_is_found(self) -> None:
         with self.assertRaisesRegex(AttributeError, "module 'bpfcanon' has no attribute 'Insns'"):

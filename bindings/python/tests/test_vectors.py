@@ -58,7 +58,7 @@ class Vectors(unittest.TestCase):
                         self.assertEqual(bpfcanon.insn_encode(decoded, to=to), programs[to], line)
                         self.assertEqual(bpfcanon.insn_canon(program, order=order, to=to), programs[to], line)
                         self.assertTrue(bpfcanon.insn_same(program, programs[to], first_order=order, second_order=to), line)
-                    self.assertFalse(bpfcanon.insn_same(program, program + EXIT, first_order=order, second_order=order), line)
+                    self.assertIs(bpfcanon.insn_same(program, EXIT, first_order=order), line == "exit", line)
                     self.assertEqual(bpfcanon.insn_show(program, order=order), f"{line}\n")
                     self.assertEqual(bpfcanon.insn_read(line, to=order), program, line)
                     self.assertEqual(bpfcanon.insn_groups(program, order=order), needed | BRINGS.get(needed, needed), line)
@@ -88,6 +88,7 @@ class Vectors(unittest.TestCase):
                 self.faults([lambda: bpfcanon.insn_read(text(given))], found, 0, int(line), False)
 
     def test_types(self) -> None:
+        first = data(rows("btf")[0][2])
         for number, (name, file, little, big, count, shown) in numbered("btf"):
             with self.subTest(line=number):
                 for given in {data(file), data(little), data(big)}:
@@ -98,7 +99,8 @@ class Vectors(unittest.TestCase):
                         self.assertEqual(bpfcanon.btf_encode(decoded[1:], to=to), canonical, name)
                     self.assertEqual(bpfcanon.btf_check(given), int(count), name)
                     self.assertEqual(bpfcanon.btf_show(given).encode(), text(shown), name)
-                    self.assertTrue(bpfcanon.btf_same(given, data(little)), name)
+                    for other in first, data(little):
+                        self.assertIs(bpfcanon.btf_same(given, other), data(little) == other, name)
 
     def test_faulty_types(self) -> None:
         good = data(rows("btf")[0][1])
