@@ -1,56 +1,11 @@
-//! What the vectors don't show: empty inputs, long output, errors, numbers of the header and
-//! threads.
+//! What the vectors don't show: long output, sets of groups, errors and numbers of the header.
 
 mod rows;
 
 use bpfcanon::insn::Groups;
 use bpfcanon::{btf, insn, object, Order};
-use rows::{load, named};
+use rows::load;
 use std::{error, io};
-
-const EXIT: [u8; 8] = [0x95, 0, 0, 0, 0, 0, 0, 0];
-
-#[test]
-fn empty_inputs_are_inputs() {
-    assert_eq!(insn::canon(Order::Big, Order::Little, &[]).unwrap(), []);
-    assert_eq!(insn::show(Order::Big, &[]).unwrap(), "");
-    assert_eq!(insn::read(Order::Big, "").unwrap(), []);
-    assert_eq!(insn::groups(Order::Big, &[]).unwrap(), insn::Groups::empty());
-    assert_eq!(insn::same(Order::Big, &[], Order::Little, &[]), Ok(true));
-    let fault = *btf::check(&[]).unwrap_err().fault().unwrap();
-    assert_eq!((fault.offset(), fault.cause()), (0, btf::Cause::ShortHeader));
-}
-
-/// Little-endian BTF of some FWDs with one name.
-fn forwards(count: usize, name: &str) -> Vec<u8> {
-    named(&[1, 7 << 24, 0].repeat(count), &format!("\0{name}\0"))
-}
-
-/// 300 types with one name of 2,000 letters: their text is many times as long as the file.
-#[test]
-fn a_name_that_types_share_is_written_for_each() {
-    let name = "a".repeat(2000);
-    assert_eq!(btf::show(&forwards(300, &name)).unwrap().matches(&name).count(), 300);
-}
-
-/// Both inputs are read, also if they have one length.
-#[test]
-fn comparisons_read_both_inputs() {
-    let (a, b) = (forwards(1, "a"), forwards(1, "b"));
-    for (first, second, is_same) in [(&a, &a, true), (&a, &b, false), (&b, &a, false)] {
-        assert_eq!(btf::same(first, second), Ok(is_same));
-    }
-    let (mov, mov_big) = ([0xbf, 0x21, 0, 0, 0, 0, 0, 0], [0xbf, 0x12, 0, 0, 0, 0, 0, 0]);
-    for (first, order, second, is_same) in [
-        (mov, Order::Big, mov_big, true),
-        (mov, Order::Big, mov, false),
-        (mov, Order::Big, EXIT, false),
-        (mov, Order::Little, EXIT, false),
-        (EXIT, Order::Little, mov, false),
-    ] {
-        assert_eq!(insn::same(Order::Little, &first, order, &second), Ok(is_same));
-    }
-}
 
 #[test]
 fn byte_orders_have_one_word_each() {
@@ -81,7 +36,10 @@ fn a_set_has_the_groups_that_are_in_it() {
 #[test]
 fn a_listing_of_short_lines_is_read() {
     let listing = "exit\n".repeat(1000);
-    assert_eq!(insn::read(Order::Little, listing).unwrap(), EXIT.repeat(1000));
+    assert_eq!(
+        insn::read(Order::Little, listing).unwrap(),
+        [0x95, 0, 0, 0, 0, 0, 0, 0].repeat(1000)
+    );
 }
 
 #[test]
@@ -138,23 +96,4 @@ fn the_crate_has_every_cause_of_the_library() {
 #[test]
 fn the_library_has_the_version_of_the_crate() {
     assert_eq!(bpfcanon::library_version(), env!("CARGO_PKG_VERSION"));
-}
-
-#[test]
-fn threads_may_call_at_the_same_time() {
-    fn is_thread_safe<T: Send + Sync + 'static>() {}
-    is_thread_safe::<insn::Error>();
-    is_thread_safe::<insn::InsnWriter<Vec<u8>>>();
-    let file = &load("flow_table.big.btf");
-    let canonical = &btf::canon(Order::Little, file).unwrap();
-    let repeat = || {
-        for _ in 0..500 {
-            assert_eq!(&btf::canon(Order::Little, file).unwrap(), canonical);
-        }
-    };
-    std::thread::scope(|scope| {
-        for _ in 0..4 {
-            scope.spawn(repeat);
-        }
-    });
 }

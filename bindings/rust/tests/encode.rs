@@ -85,26 +85,13 @@ fn a_type_of_each_kind_is_encoded() {
     assert_eq!(decoded, types);
 }
 
-#[test]
-fn no_types_are_encoded() {
-    let none = b"\xeb\x9f\x01\0\0\0\0\x18\0\0\0\0\0\0\0\0\0\0\0\0\0\0\0\x01\0";
-    assert_eq!(btf::encode::<[Type<'_>; 0]>(bpfcanon::Order::Big, []), Ok(none.to_vec()));
-}
-
 /// And the types of the running kernel, if it has any.
 #[test]
 fn compiled_files_are_encoded() {
     let files = ["little", "big"].map(|name| load(&format!("flow_table.{name}.btf")));
     for file in files.into_iter().chain(std::fs::read("/sys/kernel/btf/vmlinux")) {
-        let types = Btf::decode(&file).unwrap().iter().map(|(_, it)| it).collect::<Vec<_>>();
         for to in ORDERS {
-            let encoded = btf::encode(to, &types).unwrap();
-            assert!(encoded == btf::canon(to, &file).unwrap());
-            assert!(Btf::decode(&encoded)
-                .unwrap()
-                .iter()
-                .map(|(_, it)| it)
-                .eq(types.iter().cloned()));
+            assert!(again(to, &file).unwrap() == btf::canon(to, &file).unwrap());
         }
     }
 }

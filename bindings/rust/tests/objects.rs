@@ -1,8 +1,10 @@
 //! The rows of testdata/objects/objects.tsv; testdata/README.md has the columns.
 
+mod rows;
+
 use bpfcanon::object::{self, Cause, Error};
+use rows::{load, path_of, read_rows};
 use std::fmt::Debug;
-use std::fs;
 
 /// A row: its file, the bytes of that, and the other fields.
 struct Row {
@@ -11,25 +13,19 @@ struct Row {
     fields: Vec<String>,
 }
 
-fn rows(kind: &str) -> Vec<Row> {
-    let folder = concat!(env!("CARGO_MANIFEST_DIR"), "/../../testdata/objects");
-    let table = fs::read_to_string(format!("{folder}/objects.tsv")).unwrap();
-    let lines = table.lines().map(|line| line.split('\t').map(String::from).collect::<Vec<_>>());
-    let found: Vec<Row> = lines
-        .filter(|fields| fields[0] == kind)
-        .map(|fields| Row {
-            file: fields[1].clone(),
-            data: fs::read(format!("{folder}/{}", fields[1])).unwrap(),
-            fields: fields[2..].to_vec(),
-        })
-        .collect();
-    assert!(!found.is_empty(), "no row of {kind}");
-    found
+fn objects(kind: &str) -> Vec<Row> {
+    let table = read_rows(path_of("objects/objects.tsv"), kind);
+    let row_of = |(_, fields): (usize, Vec<String>)| Row {
+        data: load(&format!("objects/{}", fields[0])),
+        file: fields[0].clone(),
+        fields: fields[1..].to_vec(),
+    };
+    table.into_iter().map(row_of).collect()
 }
 
 #[test]
 fn accepted_files_have_their_keys() {
-    let rows = rows("object");
+    let rows = objects("object");
     let mut before = rows.last().unwrap();
     for row in &rows {
         let key = object::key(&row.data).unwrap();
@@ -62,8 +58,8 @@ fn fault<T: Debug>(result: Result<T, Error>) -> (bool, String, String) {
 
 #[test]
 fn refused_files_have_their_faults() {
-    let good = &rows("object")[0].data;
-    for Row { file, mut data, fields } in rows("object-fault") {
+    let good = &objects("object")[0].data;
+    for Row { file, mut data, fields } in objects("object-fault") {
         if let Ok(length) = fields[0].parse() {
             data.resize(length, 0);
         }

@@ -175,4 +175,6 @@ fn threads_may_read_the_same_values() {
     fn is_thread_safe<T: Send + Sync>() {}
     is_thread_safe::<Btf<'_>>();
     is_thread_safe::<Program<'_>>();
+    is_thread_safe::<insn::Error>();
+    is_thread_safe::<insn::InsnWriter<Vec<u8>>>();
 }

@@ -41,6 +41,7 @@ fn btf_fault<T: Debug>(result: Result<T, btf::Error>) -> InRow {
 
 #[test]
 fn instructions() {
+    let exit = [0x95, 0, 0, 0, 0, 0, 0, 0];
     each_row("insn", |row| {
         let (line, programs) = (&row[0], [data(&row[1]), data(&row[2])]);
         for (from, program) in ORDERS.into_iter().zip(&programs) {
@@ -48,6 +49,7 @@ fn instructions() {
             assert_eq!((insn_listing(&decoded), decoded.len()), (format!("{line}\n"), 1));
             assert_eq!((decoded.offset(0), decoded.bytes(0)), (Some(0), Some(&program[..])));
             assert_eq!(decoded.group(0).unwrap().to_string(), row[3], "{line}");
+            assert_eq!(insn::same(from, program, Order::Big, &exit), Ok(line == "exit"), "{line}");
             for (to, written) in ORDERS.into_iter().zip(&programs) {
                 let insns = decoded.iter().map(|(_, it)| it);
                 assert_eq!(insn::encode(to, insns).as_ref(), Ok(written), "{line}");
@@ -107,6 +109,7 @@ fn faulty_listings() {
 
 #[test]
 fn types() {
+    let first = data(&rows("btf")[0][2]);
     each_row("btf", |row| {
         let (name, canonical) = (&row[0], [data(&row[2]), data(&row[3])]);
         for file in [&data(&row[1]), &canonical[0], &canonical[1]] {
@@ -121,6 +124,7 @@ fn types() {
             assert_eq!(btf::show(file).unwrap().as_bytes(), text(&row[5]), "{name}");
             assert_eq!(btf::check(file).unwrap().to_string(), row[4], "{name}");
             assert_eq!(btf::same(file, &canonical[0]), Ok(true), "{name}");
+            assert_eq!(btf::same(file, &first), Ok(canonical[0] == first), "{name}");
         }
     });
 }

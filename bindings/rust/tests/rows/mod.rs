@@ -9,11 +9,13 @@ use std::{env, fs};
 
 pub const ORDERS: [Order; 2] = [Order::Little, Order::Big];
 
-/// The fields of each row of a kind, without the kind, after the row's line in the file. Another
-/// file than testdata/vectors.tsv is read if BPFCANON_VECTORS names it.
+/// The fields of each row of a kind in vectors.tsv, or in the file that BPFCANON_VECTORS names.
 fn numbered(kind: &str) -> Vec<(usize, Vec<String>)> {
-    let own = concat!(env!("CARGO_MANIFEST_DIR"), "/../../testdata/vectors.tsv");
-    let path = env::var("BPFCANON_VECTORS").unwrap_or_else(|_| own.to_string());
+    read_rows(env::var("BPFCANON_VECTORS").unwrap_or_else(|_| path_of("vectors.tsv")), kind)
+}
+
+/// The fields of each row of a kind, without the kind, after the row's line in the file.
+pub fn read_rows(path: String, kind: &str) -> Vec<(usize, Vec<String>)> {
     let file = fs::read_to_string(&path).unwrap_or_else(|error| panic!("{path}: {error}"));
     let lines = file.lines().map(|line| line.split('\t').map(String::from).collect::<Vec<_>>());
     let of_kind = lines.enumerate().filter(|(_, row)| row[0] == kind);
@@ -66,21 +68,20 @@ pub fn text(field: &str) -> Vec<u8> {
     found
 }
 
+/// The path of a file of testdata/.
+pub fn path_of(name: &str) -> String {
+    format!("{}/../../testdata/{name}", env!("CARGO_MANIFEST_DIR"))
+}
+
 /// A file of testdata/.
 pub fn load(name: &str) -> Vec<u8> {
-    let path = format!("{}/../../testdata/{name}", env!("CARGO_MANIFEST_DIR"));
+    let path = path_of(name);
     fs::read(&path).unwrap_or_else(|error| panic!("{path}: {error}"))
 }
 
-/// Little-endian BTF of these words of the type section and these strings.
-pub fn named(words: &[u32], strings: &str) -> Vec<u8> {
-    let types = words.iter().flat_map(|it| it.to_le_bytes()).collect::<Vec<_>>();
-    let lengths = [24, 0, types.len(), types.len(), strings.len()];
-    let lengths = lengths.map(|it| (it as u32).to_le_bytes()).concat();
-    [&[0x9f, 0xeb, 1, 0], &lengths[..], &types, strings.as_bytes()].concat()
-}
-
-/// Likewise, with the names `a` at 1 and `bc` at 3.
+/// Little-endian BTF of these words of the type section, with the names `a` at 1 and `bc` at 3.
 pub fn file(words: &[u32]) -> Vec<u8> {
-    named(words, "\0a\0bc\0")
+    let types = words.iter().flat_map(|it| it.to_le_bytes()).collect::<Vec<_>>();
+    let lengths = [24, 0, types.len(), types.len(), 6].map(|it| (it as u32).to_le_bytes()).concat();
+    [&[0x9f, 0xeb, 1, 0], &lengths[..], &types, b"\0a\0bc\0"].concat()
 }
