@@ -42,8 +42,8 @@ ident_rules b =
     ∷ []
 
 -- where the section header table is, and which section has the names of sections
-abbrev pub place_rules : List ℕ → List ElfRule
-place_rules b =
+abbrev pub layout_rules : List ℕ → List ElfRule
+layout_rules b =
     rule cause.SectionCount 60 (nat_lt 0 (count b) && nat_lt (count b) SHN_LORESERVE)
     ∷ rule cause.SectionTable 40 (nat_le (table b + 64 * count b) (length b))
     ∷ rule cause.NamesIndex 62 (nat_lt (names b) (count b))
@@ -58,4 +58,4 @@ header_rules b =
     ∷ rule cause.HeaderSize 52 (half b 52 == 64)
     ∷ rule cause.Segments 56 (half b 56 == 0)
     ∷ rule cause.SectionHeaderSize 58 (half b 58 == 64)
-    ∷ place_rules b
+    ∷ layout_rules b

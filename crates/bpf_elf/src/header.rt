@@ -4,7 +4,7 @@ ghost use Rattle.std.specs.Prelude.{◌≡◌, ◌==◌, ◌++◌, if◌then◌e
 ghost use Rattle.bpf_words.specs.declared.Order.TheVariants.{Little, Big};
 ghost use Rattle.bpf_elf.specs.Rules.{AllHold, IsFirstFault};
 ghost use Rattle.bpf_elf.specs.Numbers.{order_of};
-ghost use Rattle.bpf_elf.specs.Header.{FILE_LIMIT, ident_rules, header_rules, place_rules};
+ghost use Rattle.bpf_elf.specs.Header.{FILE_LIMIT, ident_rules, header_rules, layout_rules};
 ghost use Rattle.bpf_elf.specs.Headers.{IsHeaderOf};
 
 use crate::fault::{ElfCause, ElfFault, require};
@@ -101,8 +101,8 @@ fn read_table(order: Order, bytes: &[u8]) -> Result<Header, ElfFault>
     requires short { length bytes.now ≤ FILE_LIMIT }
     requires order { order ≡ order_of bytes.now }
     ensures { MatchResult result
-        (λ header. AllHold (place_rules bytes.now) × IsHeaderOf bytes.now header)
-        (IsFirstFault (place_rules bytes.now)) }
+        (λ header. AllHold (layout_rules bytes.now) × IsHeaderOf bytes.now header)
+        (IsFirstFault (layout_rules bytes.now)) }
 {
     let count = usize::from(get16(order, bytes, 60));
     require(

@@ -5,7 +5,7 @@ use Rattle.std.specs.Int.{w32, cast_unsigned}
 use Rattle.bpf_words.specs.declared.Order.{Order, TheVariants.Little, TheVariants.Big}
 use Rattle.bpf_words.specs.{Words.word32, Slots.Fields, Slots.AreFields, Slots.fields, Slots.encoded}
 use Rattle.bpf_insn.specs.Table.{fields_of, IsInsn, IsImm, wide_source, wide_next_imm}
-use Rattle.bpf_insn.specs.{Encoding.encoding, Encoding.second_slot, Forms.LacksNextImm, Forms.IsWideFault, Forms.wide_place}
+use Rattle.bpf_insn.specs.{Encoding.encoding, Encoding.second_slot, Forms.LacksNextImm, Forms.IsWideFault, Forms.wide_offset}
 use Rattle.bpf_insn.specs.Faults.{field_value, Agrees, AgreesThrough, SomeAgreesThrough, BeginsWith, IsSlotFault}
 use Rattle.bpf_insn.proofs.FormLemmas.{insn_form, same_form}
 use Rattle.bpf_insn.proofs.WitnessLemmas.{wide_load}
@@ -127,7 +127,7 @@ module _ (order : Order) (d : Reg) (s : ℕ) (k : ℤ) (rest : List ℕ) (hs : s
   whole_length : length (encoded order (head d s k) ++ rest) ≡ 8 + length rest
   whole_length = omega (arith, length-append (encoded order (head d s k)) rest, slot_length order (head d s k))
 
-  pub wide_faults : (cause : SlotCause) (at : ℕ) → IsWideFault order s rest cause → at ≡ wide_place cause
+  pub wide_faults : (cause : SlotCause) (at : ℕ) → IsWideFault order s rest cause → at ≡ wide_offset cause
       → IsSlotFault order (encoded order (head d s k) ++ rest) (record { pos = at; cause = cause })
   wide_faults Truncated at h p = record {
     unencoded = λ i b.

@@ -302,6 +302,6 @@ IsWideInsn order slot rest i =
     IsInsn i × (fields_of i ≡ slot) × (8 ≤ length rest) × (slice_range rest 0 8 ≡ second_slot order (next_imm_of i))
 
 -- the offset of a fault in the second slot, in bytes from the start of the first slot
-abbrev pub wide_place : SlotCause → ℕ
-wide_place Truncated = 8
-wide_place cause = field_offset cause
+abbrev pub wide_offset : SlotCause → ℕ
+wide_offset Truncated = 8
+wide_offset cause = field_offset cause

@@ -33,7 +33,7 @@ all_has P (y ∷ ys) x all (inr h) = all_has P ys x (All-tail P y ys all) h
 
 first_byte : (strings : List ℕ) (off c : ℕ) (cs : List ℕ) → TextAt strings off (c ∷ cs) → slice_index strings off ≡ c
 first_byte strings off c cs t =
-    ap (λ (s : List ℕ). slice_index s off) (t.is_there ∙ append_assoc t.before (c ∷ cs) (0 ∷ t.after)) ∙ get_or_at t.before c (cs ++ 0 ∷ t.after) 0 off t.place
+    ap (λ (s : List ℕ). slice_index s off) (t.is_there ∙ append_assoc t.before (c ∷ cs) (0 ∷ t.after)) ∙ get_or_at t.before c (cs ++ 0 ∷ t.after) 0 off t.at_offset
 
 some_byte : (off c : ℕ) → ¬ (c ≡ 0) → (off == 0 || not (c == 0)) ≡ true
 some_byte off c other = or_right (off == 0) (not (c == 0)) (ap not (ne_eqb c 0 other))

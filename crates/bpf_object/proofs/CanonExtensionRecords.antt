@@ -58,7 +58,7 @@ pub all_from : (n : ℕ) (test : ℕ → Bool) → ((k : ℕ) → k < n → test
 all_from zero test each = refl
 all_from (suc n) test each = and_from (all_of n test) (test n) (all_from n test (λ k lt. each k (omega (arith, lt)))) (each n (omega arith))
 
--- ---- a section whose strings are at these places
+-- ---- a section whose strings are at these offsets
 
 module _ (x : Section) (place : List ℕ → ℕ) where
   abbrev pub AtFunctions : Group Function → ℕ → Type 0
@@ -149,7 +149,7 @@ module _ (x : Section) (place : List ℕ → ℕ) where
 
   -- ---- CO-RE relocations
 
-  -- the access strings of a group are read at their places
+  -- the access strings of a group are read at their offsets
   pub record AreNoted (gr : Group CoreRelocation) : Type 0 where
     pub inside : (k : ℕ) → k < length gr.records → place (get_or gr.records k no_core_relocation).access < length x.strings
     pub read : (k : ℕ) → k < length gr.records → IsRead (get_or gr.records k no_core_relocation).access

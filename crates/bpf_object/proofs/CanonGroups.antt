@@ -28,7 +28,7 @@ pub record IsNamed {R : Type 0} (place : List ℕ → ℕ) (strings : List ℕ) 
   pub some : 0 < length gr.records
   pub named : is_section_name strings (place gr.section) ≡ true
 
--- a part of records of one size, with its names at these places
+-- a part of records of one size, with its names at these offsets
 module _ {R : Type 0} (x : Section) (p : Part) (place : List ℕ → ℕ) (bytes : R → List ℕ) (size : (r : R) → length (bytes r) ≡ record_size p) (d : R) where
   abbrev pub written : Group R → List ℕ
   written gr = group_bytes x.order place bytes gr

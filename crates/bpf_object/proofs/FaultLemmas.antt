@@ -42,13 +42,13 @@ in_framing : (o : Order) (types : List ℕ) (p : ℕ) (c : BtfCause) → Framing
 in_framing o types p c h =
     let inside = in_record o h.rest h.offset c h.fault in
     let len = ap length h.whole ∙ length-append (section_of o h.frames) h.rest in
-    record { some = omega (arith, inside.some, len); low = omega (arith, inside.low, len, h.place_is) }
+    record { some = omega (arith, inside.some, len); low = omega (arith, inside.low, len, h.at_offset_is) }
 
 in_fields : (o : Order) (strings : List ℕ) (frames : List (List ℕ)) (p : ℕ) (c : BtfCause) → FieldFault strings frames p c → IsInside (section_of o frames) p
 in_fields o strings frames p c h =
     let at = record_at frames h.index h.frame h.frame_is in
     let len = length-section o frames in
-    record { some = omega (arith, at.within, h.inside, len); low = omega (arith, at.within, h.inside, h.place_is, len) }
+    record { some = omega (arith, at.within, h.inside, len); low = omega (arith, at.within, h.inside, h.at_offset_is, len) }
 
 -- a part with bytes is inside
 part_inside : (b x : List ℕ) (pos : ℕ) → x ≡ part b pos (length x) → 0 < length x → pos + length x ≤ length b
@@ -61,16 +61,16 @@ fault_inside b InHeader p c h = in_header b p c h
 fault_inside b InStrings p c h =
     let low = in_strings h.strings h.offset c h.fault in
     let reads = cut_reads b h.order h.types h.strings h.cut in
-    omega (arith, low, h.place_is, part_inside b h.strings (strings_at h.order b) reads.strings_are (omega (arith, low)))
+    omega (arith, low, h.at_offset_is, part_inside b h.strings (strings_at h.order b) reads.strings_are (omega (arith, low)))
 fault_inside b InFrames p c h =
     let inside = in_framing h.order h.types h.offset c h.fault in
     let reads = cut_reads b h.order h.types h.strings h.cut in
-    omega (arith, inside.low, h.place_is, part_inside b h.types (types_at h.order b) reads.types_are inside.some)
+    omega (arith, inside.low, h.at_offset_is, part_inside b h.types (types_at h.order b) reads.types_are inside.some)
 fault_inside b InFields p c h =
     let inside = in_fields h.order h.strings h.frames h.offset c h.fault in
     let len = ap length h.framed.whole in
     let reads = cut_reads b h.order h.types h.strings h.cut in
-    omega (arith, inside.low, len, h.place_is, part_inside b h.types (types_at h.order b) reads.types_are (omega (arith, inside.some, len)))
+    omega (arith, inside.low, len, h.at_offset_is, part_inside b h.types (types_at h.order b) reads.types_are (omega (arith, inside.some, len)))
 
 pub fault_near : (b : List ℕ) (fault : BtfFault) → length b ≤ 15728640 → IsFirst b fault → fault.pos < 2 ^ 63
 fault_near b fault short first = omega (arith, short, fault_inside b first.phase fault.pos fault.cause first.holds)

@@ -14,7 +14,7 @@ offset_next s k =
     let inner = length-append (s k).content (padding (length (s k).content)) in
     omega (arith, outer, inner)
 
--- places grow
+-- offsets grow
 pub offset_grows : (s : ℕ → WrittenSection) (k n : ℕ) → k ≤ n → content_offset s k ≤ content_offset s n
 offset_grows s k zero le = let same : k ≡ zero = omega arith in subst (λ (m : ℕ). content_offset s k ≤ content_offset s m) same (omega arith)
 offset_grows s k (suc n) le =

@@ -11,11 +11,11 @@ use Rattle.bpf_elf.specs.Sections.{content}
 use Rattle.bpf_elf.specs.Symbols.{symbols, symbol_count, symbol_strings, has_one_string_table, is_kept_symbol}
 use Rattle.btf_types.specs.Reading.{before_nul, text_from}
 use Rattle.btf_types.proofs.TableLemmas.TextSteps.{text_there}
-use Rattle.bpf_canon.specs.btf.strings.{NamesByOffset.NamesByOffset, NamesByOffset.placed_texts, DistinctNames.distinct_offset}
+use Rattle.bpf_canon.specs.btf.strings.{NamesByOffset.NamesByOffset, NamesByOffset.texts_by_offset, DistinctNames.distinct_offset}
 use Rattle.bpf_object.specs.declared.file_strings.OwnSection.{OwnSection}
 use Rattle.bpf_object.specs.declared.file_strings.OwnSection.TheVariants.{Types, Extension, Symbols, Strings}
 use Rattle.bpf_object.specs.FileStrings.{HasFileStrings, HasOwnStrings, file_offsets, section_offsets, types_offsets, own_offsets, symbol_offsets, symbol_off, section_strings, other_strings, all_strings, own_strings, symbols_at, own_at, own_off, own_name}
-use Rattle.bpf_object.specs.NotedStrings.{placed}
+use Rattle.bpf_object.specs.NotedStrings.{text_offset}
 use Rattle.bpf_object.proofs.ReadBackStrings.{string_is_text, text_read, ends_from_closed}
 use Rattle.bpf_canon.specs.btf.strings.FirstUses.{noted, noted_all}
 use Rattle.bpf_canon.proofs.BtfLemmas.Strings.FirstUseSteps.{noted_all-append}
@@ -62,7 +62,7 @@ text_before xs ys off closed lt =
     let whole : xs ++ ys ≡ t.before ++ text_from xs off ++ 0 ∷ (t.after ++ ys) =
     ap (λ (s : List ℕ). s ++ ys) t.is_there ∙ append_assoc (t.before ++ text_from xs off) (0 ∷ t.after) ys in
     text_read (xs ++ ys) off (text_from xs off)
-    (record { without_nul = t.without_nul; before = t.before; after = t.after ++ ys; place = t.place; is_there = whole })
+    (record { without_nul = t.without_nul; before = t.before; after = t.after ++ ys; at_offset = t.at_offset; is_there = whole })
 
 -- and one of the table after it
 pub text_after : (xs ys : List ℕ) (off : ℕ) → text_from (xs ++ ys) (length xs + off) ≡ text_from ys off
@@ -103,10 +103,10 @@ own_text b own =
     ∙ text_after (other_strings b) own_strings (own_off own) ∙ own_read own
 
 -- the offset of a string that is noted by its offset
-pub place_is : (names : NamesByOffset) (strings x : List ℕ) (off place : ℕ) → names.strings ≡ strings
-    → place ≡ distinct_offset (placed_texts names) (text_from names.strings off) → text_from strings off ≡ x → place ≡ placed names x
-place_is names strings x off place same is text =
-    is ∙ ap (λ (s : List ℕ). distinct_offset (placed_texts names) (text_from s off)) same ∙ ap (distinct_offset (placed_texts names)) text
+pub at_offset_is : (names : NamesByOffset) (strings x : List ℕ) (off place : ℕ) → names.strings ≡ strings
+    → place ≡ distinct_offset (texts_by_offset names) (text_from names.strings off) → text_from strings off ≡ x → place ≡ text_offset names x
+at_offset_is names strings x off place same is text =
+    is ∙ ap (λ (s : List ℕ). distinct_offset (texts_by_offset names) (text_from s off)) same ∙ ap (distinct_offset (texts_by_offset names)) text
 
 -- three lists, one after the other
 pub three_appended : (start one two three x y z s t : List ℕ) → start ≡ [] → one ≡ start ++ x → two ≡ one ++ y → three ≡ two ++ z → x ≡ s → y ≡ t

@@ -9,7 +9,7 @@ use Rattle.std.specs.declared.vec.Vec.{Vec}
 use Rattle.bpf_elf.specs.Header.{FILE_LIMIT}
 use Rattle.btf_raw.specs.Header.{header}
 use Rattle.btf_types.specs.{Sections.SectionWords, Sections.records_in, tables.TableInvariant.IsTable}
-use Rattle.bpf_canon.specs.btf.strings.{NamesByOffset.NamesByOffset, NamesByOffset.placed_texts, DistinctNames.distinct_table}
+use Rattle.bpf_canon.specs.btf.strings.{NamesByOffset.NamesByOffset, NamesByOffset.texts_by_offset, DistinctNames.distinct_table}
 use Rattle.bpf_canon.specs.btf.write.NameOffsets.{all_offsets}
 use Rattle.bpf_canon.proofs.BtfLemmas.CanonicalEncodes.{All-front, All-back}
 use Rattle.bpf_canon.proofs.BtfLemmas.Write.SectionFiles.{each_noted}
@@ -20,7 +20,7 @@ use Rattle.bpf_object.specs.Denotes.{object_types, both_fit}
 use Rattle.bpf_object.specs.Extension.{Section, groups}
 use Rattle.bpf_object.specs.Groups.{function_group, relocation_group}
 use Rattle.bpf_object.specs.Objects.{ObjectTypes}
-use Rattle.bpf_object.specs.NotedStrings.{HasStrings, placed}
+use Rattle.bpf_object.specs.NotedStrings.{HasStrings, text_offset}
 use Rattle.bpf_object.specs.Sources.{section}
 use Rattle.bpf_object.specs.WrittenGroups.{group_offsets, groups_offsets, written_extension}
 use Rattle.bpf_object.specs.WrittenTypes.{both_offsets, both_names, written_btf, AreWritten}
@@ -91,10 +91,10 @@ module _ (s : SectionWords) (x : Section) (same : s.strings ≡ x.strings) (tabl
   pub no_btf : 15728640 < length (written_btf x.order s names) → both_fit x.order t ≡ false
   no_btf lt = first_too_long (length (btf_bytes x.order t)) 15728640 _ (subst (λ (b : List ℕ). 15728640 < length b) same_btf lt)
 
-  pub no_table : 15728640 < length (distinct_table (placed_texts names)) → both_fit x.order t ≡ false
+  pub no_table : 15728640 < length (distinct_table (texts_by_offset names)) → both_fit x.order t ≡ false
   no_table lt =
-      let types = types_bytes x.order (placed names) (records_in s) in
-      let strings = distinct_table (placed_texts names) in
+      let types = types_bytes x.order (text_offset names) (records_in s) in
+      let strings = distinct_table (texts_by_offset names) in
       let whole = length-append (header x.order 24 0 (length types) (length types) (length strings) ++ types) strings in
       no_btf (omega (arith, lt, whole))
 
@@ -106,12 +106,12 @@ module _ (s : SectionWords) (x : Section) (same : s.strings ≡ x.strings) (tabl
     has_is : has_extension t ≡ not (length fs == 0 && length rs == 0)
     has_is = rw (functions, relocations, length-map (groups x Functions) (function_group x), length-map (groups x Relocations) (relocation_group x)) refl
 
-    same_extension : written_extension x (placed names) fs rs ≡ extension
+    same_extension : written_extension x (text_offset names) fs rs ≡ extension
     same_extension =
-        rw (functions, relocations, are) (extension_is s x (placed (both_names s x)))
+        rw (functions, relocations, are) (extension_is s x (text_offset (both_names s x)))
         ∙ ap (λ (p : List ℕ → ℕ). extension_bytes x.order p t) (placed_is s x same table)
 
-    pub no_extension : not (length fs == 0 && length rs == 0) ≡ true → FILE_LIMIT < length (written_extension x (placed names) fs rs)
+    pub no_extension : not (length fs == 0 && length rs == 0) ≡ true → FILE_LIMIT < length (written_extension x (text_offset names) fs rs)
         → both_fit x.order t ≡ false
     no_extension some lt =
         let has : has_extension t ≡ true = has_is ∙ some in
@@ -125,8 +125,8 @@ module _ (s : SectionWords) (x : Section) (same : s.strings ≡ x.strings) (tabl
         record { fit = rw (has, fits_btf le) refl; types = is ∙ same_btf; extension = rw has refl }
 
     pub with_extension : {A : Type 0} (types bytes : Vec ℕ A) → not (length fs == 0 && length rs == 0) ≡ true → length (written_btf x.order s names) ≤ 15728640
-        → types.items ≡ written_btf x.order s names → length (written_extension x (placed names) fs rs) ≤ FILE_LIMIT
-        → bytes.items ≡ written_extension x (placed names) fs rs → AreWritten x.order t (record { types = types; extension = Some bytes })
+        → types.items ≡ written_btf x.order s names → length (written_extension x (text_offset names) fs rs) ≤ FILE_LIMIT
+        → bytes.items ≡ written_extension x (text_offset names) fs rs → AreWritten x.order t (record { types = types; extension = Some bytes })
     with_extension types bytes some le is short whole =
         let has : has_extension t ≡ true = has_is ∙ some in
         let fits : nat_le (length extension) FILE_LIMIT ≡ true =

@@ -12,9 +12,9 @@ use Rattle.bpf_elf.specs.Relocations.{relocation_table_rules}
 use Rattle.bpf_elf.proofs.RuleLemmas.{first_hold, rest_hold, each_holds}
 use Rattle.bpf_elf.proofs.KeptFacts.{both}
 use Rattle.btf_types.specs.{Names.kept, Names.offset_within, Names.table_of, Reading.text_from}
-use Rattle.bpf_canon.specs.btf.strings.{NamesByOffset.NamesByOffset, NamesByOffset.placed_texts, DistinctNames.distinct_offset, DistinctNames.distinct_table}
+use Rattle.bpf_canon.specs.btf.strings.{NamesByOffset.NamesByOffset, NamesByOffset.texts_by_offset, DistinctNames.distinct_offset, DistinctNames.distinct_table}
 use Rattle.bpf_canon.proofs.BtfLemmas.Strings.FirstUseSteps.{kept_first_uses}
-use Rattle.bpf_object.specs.{Canonical.offset_of, Canonical.strings_of, NotedStrings.placed}
+use Rattle.bpf_object.specs.{Canonical.offset_of, Canonical.strings_of, NotedStrings.text_offset}
 use Rattle.bpf_object.specs.FileStrings.{HasOwnStrings, section_strings, all_strings, own_at, section_offsets, types_offsets, own_offsets, symbol_off, symbol_offsets, file_offsets}
 use Rattle.bpf_object.specs.FileWith.{name_with, names_with, strings_with}
 use Rattle.bpf_object.specs.Kept.{listed, is_kept_section, kept_section, kept_sections, kept_symbol, kept_symbols}
@@ -128,7 +128,7 @@ module _ (b : List ℕ) (h : IsElf b) where
       ∙ ap (λ t. map (λ s. s.name) (kept_sections b) ++ ((names_with types extension ++ (codes ".symtab" ∷ codes ".strtab" ∷ [])) ++ t)) symbol_names
       ∙ regroup (map (λ s. s.name) (kept_sections b)) (names_with types extension) (codes ".symtab" ∷ codes ".strtab" ∷ []) (map (λ s. s.name) (kept_symbols b))
 
--- ---- places
+-- ---- offsets
 
 pointwise : (xs ys : List (List ℕ)) → kept xs ≡ kept ys → (x : List ℕ) → distinct_offset xs x ≡ offset_of ys x
 pointwise xs ys same [] = refl
@@ -138,18 +138,18 @@ pub offsets_same : (xs ys : List (List ℕ)) → kept xs ≡ kept ys → distinc
 offsets_same xs ys same = λ i. λ x. pointwise xs ys same x i
 
 pub kept_strings : (b : List ℕ) (names : NamesByOffset) (types extension : Option (List ℕ)) → IsElf b → HasOwnStrings b types extension names
-    → kept (placed_texts names) ≡ kept (strings_with b types extension)
+    → kept (texts_by_offset names) ≡ kept (strings_with b types extension)
 kept_strings b names types extension h has =
     ap (λ (s : List ℕ). kept (map (text_from s) names.offsets)) has.strings
     ∙ ap (λ (l : List ℕ). kept (map (text_from (all_strings b)) l)) has.offsets
     ∙ kept_first_uses (text_from (all_strings b)) (file_offsets b (is_some types) (is_some extension))
     ∙ ap kept (file_texts b h types extension)
 
--- the places are those of the definition
+-- the offsets are those of the definition
 pub offsets_are : (b : List ℕ) (names : NamesByOffset) (types extension : Option (List ℕ)) → IsElf b → HasOwnStrings b types extension names
-    → placed names ≡ offset_of (strings_with b types extension)
-offsets_are b names types extension h has = offsets_same (placed_texts names) (strings_with b types extension) (kept_strings b names types extension h has)
+    → text_offset names ≡ offset_of (strings_with b types extension)
+offsets_are b names types extension h has = offsets_same (texts_by_offset names) (strings_with b types extension) (kept_strings b names types extension h has)
 
 pub table_is : (b : List ℕ) (names : NamesByOffset) (types extension : Option (List ℕ)) → IsElf b → HasOwnStrings b types extension names
-    → distinct_table (placed_texts names) ≡ strings_of (strings_with b types extension)
+    → distinct_table (texts_by_offset names) ≡ strings_of (strings_with b types extension)
 table_is b names types extension h has = ap table_of (kept_strings b names types extension h has)

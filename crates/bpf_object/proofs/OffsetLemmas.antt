@@ -1,11 +1,11 @@
--- The strings of .BTF that are noted are those of the canonical file, so they have the same places.
+-- The strings of .BTF that are noted are those of the canonical file, so they have the same offsets.
 use Rattle.std.proofs.Common.{◌≡◌, ℕ, zero, suc, List, [], ◌∷◌, ◌++◌, map, refl, sym, ap, ◌∙◌, append_assoc, append-nil}
 use Rattle.std.specs.List.{flat_map}
 use Rattle.std.proofs.lemmas.List.{map-append}
 use Rattle.bpf_elf.specs.Names.{string_at}
 use Rattle.bpf_words.specs.declared.Order.{Order}
 use Rattle.btf_types.specs.{Names.kept, Names.names, Names.table_of, Names.offset_within, Reading.text_from, Sections.SectionWords, Sections.records_in, tables.TableInvariant.IsTable}
-use Rattle.bpf_canon.specs.btf.strings.{NamesByOffset.placed_texts, DistinctNames.distinct_offset, DistinctNames.distinct_table}
+use Rattle.bpf_canon.specs.btf.strings.{NamesByOffset.texts_by_offset, DistinctNames.distinct_offset, DistinctNames.distinct_table}
 use Rattle.bpf_canon.specs.btf.write.NameOffsets.{all_offsets}
 use Rattle.bpf_canon.proofs.BtfLemmas.Strings.FirstUseSteps.{same_push, kept_first_uses}
 use Rattle.bpf_canon.proofs.BtfLemmas.Write.RecordNames.{kept_at_offsets}
@@ -16,7 +16,7 @@ use Rattle.bpf_object.specs.Extension.{Section, group_count, group_name, groups}
 use Rattle.bpf_object.specs.Groups.{access_off, relocation_at, function_group, relocation_group, function_groups}
 use Rattle.bpf_object.specs.Kept.{listed}
 use Rattle.bpf_object.specs.Lines.{name_of}
-use Rattle.bpf_object.specs.NotedStrings.{placed}
+use Rattle.bpf_object.specs.NotedStrings.{text_offset}
 use Rattle.bpf_object.specs.WrittenGroups.{groups_offsets, group_offsets}
 use Rattle.bpf_object.specs.WrittenTypes.{both_offsets, both_names, written_btf}
 use Rattle.bpf_object.proofs.KeptLemmas.{all}
@@ -92,18 +92,18 @@ module _ (s : SectionWords) (x : Section) (same : s.strings ≡ x.strings) (tabl
       ∙ ap (λ (t : List (List ℕ)). kept (names (records_in s) ++ t)) (ap (λ (l : List ℕ). map (text_from l) more) same ∙ extension_texts)
 
   -- the same strings are kept
-  kept_placed : kept (placed_texts (both_names s x)) ≡ kept (types_strings (object_types s x))
+  kept_placed : kept (texts_by_offset (both_names s x)) ≡ kept (types_strings (object_types s x))
   kept_placed = kept_first_uses (text_from s.strings) (both_offsets s x) ∙ kept_offsets
 
-  -- so they have the same places
-  pub placed_is : placed (both_names s x) ≡ offset_of (types_strings (object_types s x))
-  placed_is = same_offsets (placed_texts (both_names s x)) (types_strings (object_types s x)) kept_placed
+  -- so they have the same offsets
+  pub placed_is : text_offset (both_names s x) ≡ offset_of (types_strings (object_types s x))
+  placed_is = same_offsets (texts_by_offset (both_names s x)) (types_strings (object_types s x)) kept_placed
 
   -- in the same table
-  pub table_is : distinct_table (placed_texts (both_names s x)) ≡ strings_of (types_strings (object_types s x))
+  pub table_is : distinct_table (texts_by_offset (both_names s x)) ≡ strings_of (types_strings (object_types s x))
   table_is = ap table_of kept_placed
 
   pub btf_is : (o : Order) → written_btf o s (both_names s x) ≡ btf_bytes o (object_types s x)
   btf_is o =
-      ap (λ (p : List ℕ → ℕ). btf_of o (types_bytes o p (records_in s)) (distinct_table (placed_texts (both_names s x)))) placed_is
+      ap (λ (p : List ℕ → ℕ). btf_of o (types_bytes o p (records_in s)) (distinct_table (texts_by_offset (both_names s x)))) placed_is
       ∙ ap (btf_of o (types_bytes o (offset_of (types_strings (object_types s x))) (records_in s))) table_is

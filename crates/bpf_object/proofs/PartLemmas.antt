@@ -5,7 +5,7 @@ use Rattle.std.specs.List.{flat_map}
 use Rattle.bpf_words.specs.declared.Order.{Order}
 use Rattle.bpf_elf.specs.{ElfRules.IsElf, Header.FILE_LIMIT, Header.SHN_LORESERVE, Kinds.SHT_SYMTAB, Kinds.SHT_STRTAB, Numbers.order_of, Numbers.flags_of}
 use Rattle.bpf_elf.specs.Symbols.{symbol_count, is_kept_symbol, is_local, st_info}
-use Rattle.bpf_canon.specs.btf.strings.{NamesByOffset.NamesByOffset, NamesByOffset.placed_texts, DistinctNames.distinct_table}
+use Rattle.bpf_canon.specs.btf.strings.{NamesByOffset.NamesByOffset, NamesByOffset.texts_by_offset, DistinctNames.distinct_table}
 use Rattle.std.specs.Borrow.{Bor}
 use Rattle.std.proofs.lemmas.Bool.Decides.{nat_tests}
 use Rattle.std.proofs.lemmas.List.{map-append, length-map, get_or-append-add}
@@ -14,7 +14,7 @@ use Rattle.bpf_object.specs.Canonical.{own_section, written_section, symbol_byte
 use Rattle.bpf_object.specs.declared.object_writer.Parts.{Parts}
 use Rattle.bpf_object.specs.FileStrings.{HasOwnStrings}
 use Rattle.bpf_object.specs.FileWith.{name_with, strings_with, section_with, symtab_with, sections_with, file_with, fits_with, IsFileWith}
-use Rattle.bpf_object.specs.{NotedStrings.placed, Objects.KeptSymbol, SymbolRows.globals_from}
+use Rattle.bpf_object.specs.{NotedStrings.text_offset, Objects.KeptSymbol, SymbolRows.globals_from}
 use Rattle.bpf_object.proofs.{CanonLists.length-listed, NamedLemmas.offsets_are, NamedLemmas.table_is, ReadBackLayout.length-file_of, ReadBackLayout.content_there, ReadBackWords.has_inside}
 use Rattle.bpf_object.specs.File.{WrittenSection, content_offset, padding, file_of}
 use Rattle.bpf_object.specs.{Kept.listed, Kept.number_of, Kept.kept_sections, Kept.kept_symbol, Kept.kept_symbols, Written.content_of}
@@ -137,13 +137,13 @@ as_with b types extension = refl
 
 pub sections_same : {A : Type 0} (b : List ℕ) (types extension : Option (List ℕ)) (names : NamesByOffset) (p : Parts A) → IsElf b
     → HasOwnStrings b types extension names → AreParts b names p
-    → all_sections b (placed names) types extension p.symbols.items (distinct_table (placed_texts names)) ≡ sections_with b types extension
+    → all_sections b (text_offset names) types extension p.symbols.items (distinct_table (texts_by_offset names)) ≡ sections_with b types extension
 sections_same b types extension names p h has are =
-    let table = distinct_table (placed_texts names) in
+    let table = distinct_table (texts_by_offset names) in
     let place = offset_of (strings_with b types extension) in
     let places = offsets_are b names types extension h has in
     let symbols = are.symbols ∙ ap (λ (at : List ℕ → ℕ). flat_map (symbol_bytes (order_of b) at) (kept_symbols b)) places in
-    as_all b types extension (placed names) p.symbols.items table
+    as_all b types extension (text_offset names) p.symbols.items table
     ∙ ap (λ (at : List ℕ → ℕ). composed b types extension at (symtab_of b types extension) p.symbols.items table (globals_from b (symbol_count b))) places
     ∙ ap (λ (n : ℕ). composed b types extension place n p.symbols.items table (globals_from b (symbol_count b))) (symtab_same b types extension)
     ∙ ap (λ (x : List ℕ). composed b types extension place (symtab_with b types extension) x table (globals_from b (symbol_count b))) symbols

@@ -6,7 +6,7 @@ use Rattle.bpf_words.specs.declared.Order.{Order, TheVariants.Little, TheVariant
 use Rattle.bpf_words.specs.Words.{word32_at}
 use Rattle.bpf_elf.specs.{Rules.AllHold, Names.is_closed, Names.string_at, Kinds.SHT_STRTAB}
 use Rattle.bpf_elf.specs.Numbers as number
-use Rattle.bpf_elf.specs.Header.{FILE_LIMIT, SHN_LORESERVE, ELF_MAGIC, ELFCLASS64, EV_CURRENT, ET_REL, EM_BPF, ident_rules, place_rules, header_rules}
+use Rattle.bpf_elf.specs.Header.{FILE_LIMIT, SHN_LORESERVE, ELF_MAGIC, ELFCLASS64, EV_CURRENT, ET_REL, EM_BPF, ident_rules, layout_rules, header_rules}
 use Rattle.bpf_elf.specs.Sections.{content, is_inside, is_string_table, table_rules, name}
 use Rattle.bpf_elf.specs.ElfRules.{head_rules}
 use Rattle.bpf_elf.proofs.RuleLemmas.{both_hold}
@@ -27,12 +27,12 @@ ident_hold b short long magic class order version =
     rw (most_test (length b) FILE_LIMIT short, most_test 64 (length b) long, equal_test (word32_at Little b 0) ELF_MAGIC magic, equal_test (slice_index b 4) ELFCLASS64 class, order, equal_test (slice_index b 6) EV_CURRENT version) refl
 
 offset_hold : (b : List ℕ) → 0 < number.count b → number.count b < SHN_LORESERVE → number.table b + 64 * number.count b ≤ length b → number.names b < number.count b
-    → AllHold (place_rules b)
+    → AllHold (layout_rules b)
 offset_hold b some few inside names =
     let counted = and_from (nat_lt 0 (number.count b)) (nat_lt (number.count b) SHN_LORESERVE) (less_test 0 (number.count b) some) (less_test (number.count b) SHN_LORESERVE few) in
     rw (counted, most_test (number.table b + 64 * number.count b) (length b) inside, less_test (number.names b) (number.count b) names) refl
 
-header_hold : (b : List ℕ) (flags table count : ℕ) → HasFileHeader b flags table count → AllHold (place_rules b) → AllHold (header_rules b)
+header_hold : (b : List ℕ) (flags table count : ℕ) → HasFileHeader b flags table count → AllHold (layout_rules b) → AllHold (header_rules b)
 header_hold b flags table count h places =
     rw (equal_test (number.half b 16) ET_REL h.file_type, equal_test (number.half b 18) EM_BPF h.machine, equal_test (number.word b 20) EV_CURRENT h.version, equal_test (number.half b 52) 64 h.header_size, equal_test (number.half b 56) 0 h.segments, equal_test (number.half b 58) 64 h.section_header_size) places
 
@@ -57,7 +57,7 @@ module _ (b : List ℕ) (o : Order) (flags : ℕ) (s : ℕ → WrittenSection) (
       ident_hold b (omega (arith, size_is)) (omega (arith, size_is))
       (magic_is b (at 0 (omega arith)) (at 1 (omega arith)) (at 2 (omega arith)) (at 3 (omega arith))) (at 4 (omega arith)) order (at 6 (omega arith))
 
-  offsets_kept : AllHold (place_rules b)
+  offsets_kept : AllHold (layout_rules b)
   offsets_kept =
       let h = has_file_header b o flags s n is w in
       let table = h.table in

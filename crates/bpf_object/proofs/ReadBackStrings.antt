@@ -1,4 +1,4 @@
--- Strings of a table read back at their places.
+-- Strings of a table read back at their offsets.
 use Rattle.std.proofs.Common.{◌≡◌, ℕ, zero, suc, ◌+◌, ◌-◌, ◌<◌, ◌==◌, Bool, true, cond, not, List, [], ◌∷◌, ◌++◌, length, drop, refl, sym, ap, ◌∙◌, append_assoc, length-append, arith}
 use Rattle.std.specs.Prelude.{take_while, slice_index}
 use Rattle.std.specs.List.{flat_map}
@@ -38,7 +38,7 @@ before_first_nul (suc c ∷ x) rest none = ap (λ (t : List ℕ). suc c ∷ t) (
 pub text_read : (strings : List ℕ) (off : ℕ) (x : List ℕ) → TextAt strings off x → text_from strings off ≡ x
 text_read strings off x t =
     let whole : strings ≡ t.before ++ (x ++ 0 ∷ t.after) = t.is_there ∙ append_assoc t.before x (0 ∷ t.after) in
-    ap (λ (s : List ℕ). text_from s off) whole ∙ ap before_nul (drop_at t.before (x ++ 0 ∷ t.after) off t.place) ∙ before_first_nul x t.after t.without_nul
+    ap (λ (s : List ℕ). text_from s off) whole ∙ ap before_nul (drop_at t.before (x ++ 0 ∷ t.after) off t.at_offset) ∙ before_first_nul x t.after t.without_nul
 
 pub string_read : (strings : List ℕ) (off : ℕ) (x : List ℕ) → TextAt strings off x → string_at strings off ≡ x
 string_read strings off x t = string_is_text strings off ∙ text_read strings off x t
@@ -46,7 +46,7 @@ string_read strings off x t = string_is_text strings off ∙ text_read strings o
 -- and its NUL is inside
 pub text_inside : (strings : List ℕ) (off : ℕ) (x : List ℕ) → TextAt strings off x → off + length x < length strings
 text_inside strings off x t =
-    let place = t.place in
+    let place = t.at_offset in
     omega (arith, ap length t.is_there, length-append (t.before ++ x) (0 ∷ t.after), length-append t.before x)
 
 -- ---- the table of a list of strings

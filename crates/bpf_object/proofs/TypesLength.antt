@@ -1,4 +1,4 @@
--- The length of the records of .BTF doesn't depend on the places of their names.
+-- The length of the records of .BTF doesn't depend on the offsets of their names.
 use Rattle.std.proofs.Common.{◌≡◌, ℕ, ◌+◌, ◌<◌, ◌≤◌, true, false, List, [], ◌∷◌, ◌++◌, length, refl, sym, ◌∙◌, length-append, arith}
 use Rattle.std.specs.{Prelude.nat_le, List.flat_map}
 use Rattle.std.proofs.lemmas.Bool.Decides.{nat_tests}
@@ -11,9 +11,9 @@ use Rattle.btf_types.specs.Values.{TypeItem, Member, EnumValue, Value64, Param, 
 use Rattle.btf_types.specs.{Sections.SectionWords, Sections.records_in, strings.StringTable.offset_of, tables.TableInvariant.IsTable}
 use Rattle.bpf_canon.specs.btf.CanonicalBtf.{words_of_item, record_words}
 use Rattle.bpf_canon.proofs.BtfLemmas.Write.SectionFiles.{types_same}
-use Rattle.bpf_canon.specs.btf.strings.{NamesByOffset.NamesByOffset, NamesByOffset.placed_texts, DistinctNames.distinct_table}
+use Rattle.bpf_canon.specs.btf.strings.{NamesByOffset.NamesByOffset, NamesByOffset.texts_by_offset, DistinctNames.distinct_table}
 use Rattle.bpf_object.specs.Canonical.{types_bytes}
-use Rattle.bpf_object.specs.NotedStrings.{placed}
+use Rattle.bpf_object.specs.NotedStrings.{text_offset}
 use Rattle.bpf_object.specs.WrittenTypes.{written_btf}
 
 module _ (p q : List ℕ → ℕ) where
@@ -64,13 +64,13 @@ types_length s table from o place types is =
     records_length place (offset_of (records_in s)) o (records_in s) ∙ sym (types_same s table from o types is)
 
 -- .BTF with these strings
-module _ (o : Order) (s : SectionWords) (names : NamesByOffset) (types_len table_len : ℕ) (types_is : length (types_bytes o (placed names) (records_in s)) ≡ types_len)
-    (table_is : table_len ≡ length (distinct_table (placed_texts names))) where
+module _ (o : Order) (s : SectionWords) (names : NamesByOffset) (types_len table_len : ℕ) (types_is : length (types_bytes o (text_offset names) (records_in s)) ≡ types_len)
+    (table_is : table_len ≡ length (distinct_table (texts_by_offset names))) where
   abbrev types : List ℕ
-  types = types_bytes o (placed names) (records_in s)
+  types = types_bytes o (text_offset names) (records_in s)
 
   abbrev strings : List ℕ
-  strings = distinct_table (placed_texts names)
+  strings = distinct_table (texts_by_offset names)
 
   btf_length : length (written_btf o s names) ≡ 24 + types_len + table_len
   btf_length =

@@ -1,16 +1,16 @@
--- The new places of the strings of .BTF.ext.
+-- The new offsets of the strings of .BTF.ext.
 use Rattle.std.proofs.Common.{◌≡◌, ℕ, ◌+◌, ◌<◌, List, [], ◌∷◌, ◌++◌, length, take, get_or, refl, ap, sym, ◌∙◌, subst, add-one, append-nil}
 use Rattle.std.specs.List.{All, Contains, flat_map}
 use Rattle.std.proofs.lemmas.List.{take_more, Concat.flat_map-append, Elements.All-head, Elements.All-tail}
 use Rattle.bpf_elf.specs.Names.{string_at}
 use Rattle.btf_types.specs.Reading.{text_from}
-use Rattle.bpf_canon.specs.btf.strings.{NamesByOffset.NamesByOffset, NamesByOffset.placed_texts, DistinctNames.distinct_offset}
+use Rattle.bpf_canon.specs.btf.strings.{NamesByOffset.NamesByOffset, NamesByOffset.texts_by_offset, DistinctNames.distinct_offset}
 use Rattle.bpf_object.specs.declared.{extension.Part.Part, source.Source.Source}
 use Rattle.bpf_object.specs.declared.extension.Part.TheVariants.{Relocations}
 use Rattle.bpf_object.specs.Extension.{Section, group_name, group_count}
 use Rattle.bpf_object.specs.Groups.{access_off}
 use Rattle.bpf_object.specs.Kept.{listed}
-use Rattle.bpf_object.specs.NotedStrings.{placed, HasStrings}
+use Rattle.bpf_object.specs.NotedStrings.{text_offset, HasStrings}
 use Rattle.bpf_object.specs.Sources.{section}
 use Rattle.bpf_object.specs.WrittenGroups.{record_offsets, record_bytes, records_bytes}
 use Rattle.bpf_object.proofs.KeptLemmas.{all, length-all, get-all}
@@ -22,10 +22,10 @@ each_listed P f n k each lt = subst P (get-all f n k (f k) lt) (each k (f k) (rw
 
 -- the offset of a string that is noted by its offset
 pub placed_at : (names : NamesByOffset) (strings : List ℕ) (off place : ℕ) → names.strings ≡ strings
-    → place ≡ distinct_offset (placed_texts names) (text_from names.strings off) → place ≡ placed names (string_at strings off)
+    → place ≡ distinct_offset (texts_by_offset names) (text_from names.strings off) → place ≡ text_offset names (string_at strings off)
 placed_at names strings off place same is =
-    is ∙ ap (λ (s : List ℕ). distinct_offset (placed_texts names) (text_from s off)) same
-    ∙ ap (distinct_offset (placed_texts names)) (sym (string_is_text strings off))
+    is ∙ ap (λ (s : List ℕ). distinct_offset (texts_by_offset names) (text_from s off)) same
+    ∙ ap (distinct_offset (texts_by_offset names)) (sym (string_is_text strings off))
 
 pub name_noted : (names : NamesByOffset) (x : Source) (p : Part) (g : ℕ) → HasStrings names x p g → Contains names.offsets (group_name (section x) g)
 name_noted names x p g has = All-head (Contains names.offsets) (group_name (section x) g) (record_offsets (section x) p g) has.noted

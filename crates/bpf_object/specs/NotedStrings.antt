@@ -1,7 +1,7 @@
--- The strings of .BTF.ext, whose new places are known.
+-- The strings of .BTF.ext, whose new offsets are known.
 use Rattle.std.specs.Prelude.{◌≡◌, ℕ, ◌<◌, List, length}
 use Rattle.std.specs.List.{All, Contains}
-use Rattle.bpf_canon.specs.btf.strings.{NamesByOffset.NamesByOffset, NamesByOffset.placed_texts, DistinctNames.distinct_offset}
+use Rattle.bpf_canon.specs.btf.strings.{NamesByOffset.NamesByOffset, NamesByOffset.texts_by_offset, DistinctNames.distinct_offset}
 use Rattle.bpf_object.specs.declared.{extension.Part.Part, source.Source.Source}
 use Rattle.bpf_object.specs.declared.extension.Part.TheVariants.{Relocations}
 use Rattle.bpf_object.specs.Extension.{groups}
@@ -9,8 +9,8 @@ use Rattle.bpf_object.specs.Sources.{section, HasParts}
 use Rattle.bpf_object.specs.WrittenGroups.{group_offsets}
 
 -- the offset of a string among these
-abbrev pub placed : NamesByOffset → List ℕ → ℕ
-placed names = distinct_offset (placed_texts names)
+abbrev pub text_offset : NamesByOffset → List ℕ → ℕ
+text_offset names = distinct_offset (texts_by_offset names)
 
 -- the strings of a group are inside the strings of .BTF
 pub record AreInside (x : Source) (p : Part) (g : ℕ) : Type 0 where

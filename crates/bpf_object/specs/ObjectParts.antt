@@ -5,7 +5,7 @@ use Rattle.bpf_canon.specs.btf.strings.NamesByOffset.{NamesByOffset}
 use Rattle.bpf_object.specs.declared.object_writer.Parts.{Parts}
 use Rattle.bpf_object.specs.Kept.{is_kept_section, kept_sections, numbers}
 use Rattle.bpf_object.specs.{FileWith.section_with, SectionRows.written_kept}
-use Rattle.bpf_object.specs.NotedStrings.{placed}
+use Rattle.bpf_object.specs.NotedStrings.{text_offset}
 use Rattle.bpf_object.specs.SymbolRows.{symbols_bytes, globals_from}
 use Rattle.bpf_elf.specs.Kinds.{SHT_SYMTAB, SHT_STRTAB}
 use Rattle.bpf_object.specs.Canonical.{own_section}
@@ -18,7 +18,7 @@ use Rattle.bpf_object.specs.Tables.{tables_bytes}
 pub record AreParts {A : Type 0} (b : List ℕ) (names : NamesByOffset) (p : Parts A) : Type 0 where
   pub numbers : p.numbers.items ≡ numbers (is_kept_section b) (count b)
   pub rows : p.rows.items ≡ tables_bytes b (count b)
-  pub symbols : p.symbols.items ≡ symbols_bytes b (placed names) (symbol_count b)
+  pub symbols : p.symbols.items ≡ symbols_bytes b (text_offset names) (symbol_count b)
 
 -- how many sections that makes
 abbrev pub bool_number : Bool → ℕ

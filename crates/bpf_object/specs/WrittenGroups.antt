@@ -1,4 +1,4 @@
--- The bytes of the groups of .BTF.ext, from the places of the groups in the section that is read.
+-- The bytes of the groups of .BTF.ext, from the offsets of the groups in the section that is read.
 use Rattle.std.specs.Prelude.{ℕ, zero, suc, true, List, [], ◌∷◌, ◌++◌}
 use Rattle.std.specs.List.{flat_map}
 use Rattle.bpf_words.specs.Words.{word32}

@@ -3,7 +3,7 @@ use Rattle.std.specs.Prelude.{◌≡◌, ◌⊎◌, ℕ, true, List, [], ◌++�
 use Rattle.std.specs.List.{All}
 use Rattle.bpf_words.specs.declared.Order.{Order}
 use Rattle.btf_types.specs.Sections.{SectionWords, records_in}
-use Rattle.bpf_canon.specs.btf.strings.{FirstUses.noted_all, NamesByOffset.NamesByOffset, NamesByOffset.placed_texts, DistinctNames.distinct_table}
+use Rattle.bpf_canon.specs.btf.strings.{FirstUses.noted_all, NamesByOffset.NamesByOffset, NamesByOffset.texts_by_offset, DistinctNames.distinct_table}
 use Rattle.bpf_canon.specs.btf.write.NameOffsets.{all_offsets}
 use Rattle.bpf_object.specs.declared.{extension.Part.Part, source.Source.Source, types_writer.WrittenTypes.WrittenTypes}
 use Rattle.bpf_object.specs.declared.extension.Part.TheVariants.{Functions, Relocations}
@@ -12,7 +12,7 @@ use Rattle.bpf_object.specs.Denotes.{both_fit}
 use Rattle.bpf_object.specs.Extension.{Section, groups}
 use Rattle.bpf_object.specs.FileWith.{extension_content}
 use Rattle.bpf_object.specs.Objects.{ObjectTypes}
-use Rattle.bpf_object.specs.NotedStrings.{AreInside, IsChecked, placed}
+use Rattle.bpf_object.specs.NotedStrings.{AreInside, IsChecked, text_offset}
 use Rattle.bpf_object.specs.Sources.{section, HasGroup}
 use Rattle.bpf_object.specs.Written.{items_of}
 use Rattle.bpf_object.specs.WrittenGroups.{groups_offsets}
@@ -37,7 +37,7 @@ both_names s x = record { strings = s.strings; offsets = noted_all [] (both_offs
 
 -- .BTF with these strings
 abbrev pub written_btf : Order → SectionWords → NamesByOffset → List ℕ
-written_btf o s names = btf_of o (types_bytes o (placed names) (records_in s)) (distinct_table (placed_texts names))
+written_btf o s names = btf_of o (types_bytes o (text_offset names) (records_in s)) (distinct_table (texts_by_offset names))
 
 -- both sections of these types, which aren't larger than those of a file may be
 pub record AreWritten {A : Type 0} (o : Order) (t : ObjectTypes) (w : WrittenTypes A) : Type 0 where

@@ -45,8 +45,8 @@ fn check_no_extension(elf: &Elf<'_>) -> Result<(), ObjectFault>
     ensures { Checks (spec.without_types_rules elf.now) result }
 {
     let at = elf.section_of(Kind::Extension);
-    let place = u64::from(elf.header_offset(at));
-    require(at == 0, place, ObjectCause::ExtensionWithoutTypes)
+    let offset = u64::from(elf.header_offset(at));
+    require(at == 0, offset, ObjectCause::ExtensionWithoutTypes)
 }
 
 /// .BTF.ext of a file, without bytes if there is none.

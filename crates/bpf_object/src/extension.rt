@@ -149,7 +149,7 @@ pub(crate) fn check_source(x: Source<'_>) -> Result<(), ObjectFault>
 ///   [`ExtensionRecordSize`](ObjectCause::ExtensionRecordSize), and for each group
 ///   [`ExtensionGroup`](ObjectCause::ExtensionGroup), and
 ///   [`ExtensionString`](ObjectCause::ExtensionString) if no section can have its name.
-/// - Each group of functions with the group of lines in the same place:
+/// - Each group of functions with the group of lines at the same index:
 ///   [`ExtensionLines`](ObjectCause::ExtensionLines) if one of them is missing, if they are of
 ///   sections with different names, if the instruction offsets of one of them don't ascend, or if a
 ///   function has no line.

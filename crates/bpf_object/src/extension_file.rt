@@ -5,7 +5,7 @@ ghost use Rattle.std.specs.List.{All};
 ghost use Rattle.bpf_elf.specs.Header.{FILE_LIMIT as spec_limit};
 ghost use Rattle.bpf_object.specs.declared.extension.Part.TheVariants.{Functions, Relocations};
 ghost use Rattle.bpf_object.specs.Canonical.{extension_of as spec_extension, extension_header};
-ghost use Rattle.bpf_object.specs.NotedStrings.{HasStrings, placed};
+ghost use Rattle.bpf_object.specs.NotedStrings.{HasStrings, text_offset};
 ghost use Rattle.bpf_object.specs.Sources.{section, HasGroup};
 ghost use Rattle.bpf_object.specs.WrittenGroups as spec;
 
@@ -39,8 +39,10 @@ fn push_header<A: Allocator>(
 fn fits(functions: usize, lines: usize, relocations: usize) -> bool
     ensures { result ≡ nat_le (32 + (functions + lines + relocations)) spec_limit }
 {
-    let room = FILE_LIMIT - 32;
-    functions <= room && lines <= room - functions && relocations <= room - functions - lines
+    let capacity = FILE_LIMIT - 32;
+    functions <= capacity
+        && lines <= capacity - functions
+        && relocations <= capacity - functions - lines
 }
 
 /// The section with these parts, or `None` if it has more than 64 MiB.
@@ -84,7 +86,7 @@ fn part_of<A: Allocator, B: Allocator>(
     requires groups { All (HasGroup x (spec.source_part part)) groups.now }
     requires names { All (HasStrings names.now x part) groups.now }
     ensures { IfOk result (λ out. out.items
-        ≡ spec.written_part (section x.entry) (placed names.now) part groups.now) }
+        ≡ spec.written_part (section x.entry) (text_offset names.now) part groups.now) }
 {
     let mut out = Vec::new(alloc);
     push_part(&mut out, names, x, part, groups)?;
@@ -103,7 +105,7 @@ pub(crate) fn write_extension<A: Allocator + Copy>(
     requires relocations { All (HasGroup x Relocations) relocations.now }
     requires function_names { All (HasStrings names.now x Functions) functions.now }
     requires relocation_names { All (HasStrings names.now x Relocations) relocations.now }
-    ensures { let whole = spec.written_extension (section x.entry) (placed names.now)
+    ensures { let whole = spec.written_extension (section x.entry) (text_offset names.now)
         functions.now relocations.now in
         IfOk result (λ found. MatchOption found (spec_limit < length whole)
         (λ out. (length whole ≤ spec_limit) × (out.items ≡ whole))) }

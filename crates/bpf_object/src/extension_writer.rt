@@ -1,5 +1,5 @@
 //! The section .BTF.ext of a canonical file (Linux Documentation/bpf/btf.rst, "4.2 .BTF.ext
-//! section"): the groups of the file with the new places of their strings, and lines of no source.
+//! section"): the groups of the file with the new offsets of their strings, and lines of no source.
 
 ghost use Rattle.std.specs.Prelude.{◌≡◌, ◌<◌, ◌++◌, ℕ, OnOk};
 ghost use Rattle.std.specs.List.{All};
@@ -7,7 +7,7 @@ ghost use Rattle.bpf_object.specs.Extension.{group_count as spec_count};
 ghost use Rattle.bpf_object.specs.declared.extension.Part.TheVariants.{Relocations};
 ghost use Rattle.bpf_object.specs.Groups.{relocation_at};
 ghost use Rattle.bpf_object.specs.Lines.{name_of};
-ghost use Rattle.bpf_object.specs.NotedStrings.{HasStrings, placed};
+ghost use Rattle.bpf_object.specs.NotedStrings.{HasStrings, text_offset};
 ghost use Rattle.bpf_object.specs.Sources.{section, HasGroup};
 ghost use Rattle.bpf_object.specs.WrittenGroups as spec;
 
@@ -36,7 +36,7 @@ fn new_name_offset<B: Allocator>(
 ) -> u32
     requires group { HasGroup x (spec.source_part part) group }
     requires names { HasStrings names.now x part group }
-    ensures { result ≡ placed names.now (name_of (section x.entry) group) }
+    ensures { result ≡ text_offset names.now (name_of (section x.entry) group) }
 {
     names.new_offset(word(x, group) as u32)
 }
@@ -51,7 +51,7 @@ fn access_offset<B: Allocator>(
     requires group { HasGroup x Relocations group }
     requires there { k < spec_count (section x) group }
     requires names { HasStrings names.now x Relocations group }
-    ensures { result ≡ placed names.now (relocation_at (section x.entry) group k).access }
+    ensures { result ≡ text_offset names.now (relocation_at (section x.entry) group k).access }
 {
     names.new_offset(access_off(x, group, k) as u32)
 }
@@ -69,7 +69,7 @@ fn push_record<A: Allocator, B: Allocator>(
     requires there { k < spec_count (section x) group }
     requires names { HasStrings names.now x part group }
     ensures { OnOk result (out.new.items ≡ out.old.items
-        ++ spec.record_bytes (section x.entry) (placed names.now) part group k) }
+        ++ spec.record_bytes (section x.entry) (text_offset names.now) part group k) }
 {
     let at = group + 8 + records_len(source_part(part), k);
     push32(out, x.order, word(x, at) as u32)?;
@@ -95,7 +95,7 @@ fn push_records<A: Allocator, B: Allocator>(
     requires group { HasGroup x (spec.source_part part) group }
     requires names { HasStrings names.now x part group }
     ensures { OnOk result (out.new.items ≡ out.old.items
-        ++ spec.records_bytes (section x.entry) (placed names.now) part group
+        ++ spec.records_bytes (section x.entry) (text_offset names.now) part group
         (spec_count (section x.entry) group)) }
 {
     for k in 0..group_count(x, group) {
@@ -115,7 +115,7 @@ fn push_group<A: Allocator, B: Allocator>(
     requires group { HasGroup x (spec.source_part part) group }
     requires names { HasStrings names.now x part group }
     ensures { OnOk result (out.new.items ≡ out.old.items
-        ++ spec.group_bytes_at (section x.entry) (placed names.now) part group) }
+        ++ spec.group_bytes_at (section x.entry) (text_offset names.now) part group) }
 {
     push32(out, x.order, new_name_offset(names, x, part, group))?;
     push32(out, x.order, group_count(x, group) as u32)?;
@@ -133,7 +133,7 @@ fn push_groups<A: Allocator, B: Allocator>(
     requires groups { All (HasGroup x (spec.source_part part)) groups.now }
     requires names { All (HasStrings names.now x part) groups.now }
     ensures { OnOk result (out.new.items ≡ out.old.items
-        ++ spec.groups_bytes (section x.entry) (placed names.now) part groups.now) }
+        ++ spec.groups_bytes (section x.entry) (text_offset names.now) part groups.now) }
 {
     for k in 0..groups.len() {
         push_group(out, names, x, part, groups[k])?;
@@ -152,7 +152,7 @@ pub(crate) fn push_part<A: Allocator, B: Allocator>(
     requires groups { All (HasGroup x (spec.source_part part)) groups.now }
     requires names { All (HasStrings names.now x part) groups.now }
     ensures { OnOk result (out.new.items ≡ out.old.items
-        ++ spec.written_part (section x.entry) (placed names.now) part groups.now) }
+        ++ spec.written_part (section x.entry) (text_offset names.now) part groups.now) }
 {
     if groups.is_empty() {
         return Ok(());

@@ -164,11 +164,11 @@ fn table_offset(sections: &[WrittenSection<'_>]) -> u64
     requires { spec.content_offset (section_at sections.now) (length sections.now) < 2 ^ 63 }
     ensures { result ≡ spec.content_offset (section_at sections.now) (length sections.now) }
 {
-    let mut place = 64;
+    let mut offset = 64;
     for k in 0..sections.len() {
-        place += padded_len(sections[k].content.len());
+        offset += padded_len(sections[k].content.len());
     }
-    place
+    offset
 }
 
 /// Appends the section header table.

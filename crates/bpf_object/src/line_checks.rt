@@ -109,7 +109,7 @@ fn is_pair(x: Source<'_>, functions: usize, lines: usize) -> bool
         && have_lines(x, functions, lines)
 }
 
-/// Checks a group of functions and the group of lines in the same place.
+/// Checks a group of functions and the group of lines at the same index.
 fn check_pair(x: Source<'_>, functions: usize, lines: usize) -> Result<(), ObjectFault>
     requires functions { HasGroup x Functions functions }
     requires lines { HasGroup x Lines lines }
@@ -121,7 +121,7 @@ fn check_pair(x: Source<'_>, functions: usize, lines: usize) -> Result<(), Objec
     require(is_pair, pos, ObjectCause::ExtensionLines)
 }
 
-/// Reports a group that has no other one in the same place.
+/// Reports a group that has no other one at the same index.
 fn report_single(x: Source<'_>, part: Part, group: usize) -> Result<(), ObjectFault>
     requires { HasGroup x part group }
     ensures { Checks (rule ExtensionLines (x.entry.start + group) false ∷ []) result }

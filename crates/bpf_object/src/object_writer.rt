@@ -6,7 +6,7 @@ ghost use Rattle.bpf_elf.specs.ElfRules.{IsElf};
 ghost use Rattle.bpf_elf.specs.Header.{FILE_LIMIT as spec_limit, SHN_LORESERVE as spec_reserved};
 ghost use Rattle.bpf_elf.specs.Numbers.{count, order_of, flags_of};
 ghost use Rattle.bpf_elf.specs.Symbols.{symbol_count};
-ghost use Rattle.bpf_canon.specs.btf.strings.{FirstUses.noted_all, NamesByOffset.placed_texts};
+ghost use Rattle.bpf_canon.specs.btf.strings.{FirstUses.noted_all, NamesByOffset.texts_by_offset};
 ghost use Rattle.bpf_canon.specs.btf.strings.DistinctNames.{distinct_table};
 ghost use Rattle.bpf_object.specs.Canonical.{own_section as spec_own};
 ghost use Rattle.bpf_object.specs.File.{content_offset};
@@ -14,7 +14,7 @@ ghost use Rattle.bpf_object.specs.FileStrings as strings;
 ghost use Rattle.bpf_object.specs.FileWith as spec;
 ghost use Rattle.bpf_object.specs.FileWith.{IsFileWith};
 ghost use Rattle.bpf_object.specs.Kept.{is_kept_section, kept_sections, numbers};
-ghost use Rattle.bpf_object.specs.NotedStrings.{placed};
+ghost use Rattle.bpf_object.specs.NotedStrings.{text_offset};
 ghost use Rattle.bpf_object.specs.ObjectParts.{AreParts, all_sections, bool_number, file_by, is_file_small, last_sections};
 ghost use Rattle.bpf_object.specs.Tables.{tables_bytes};
 ghost use Rattle.bpf_object.specs.Written.{content_of};
@@ -122,7 +122,8 @@ fn push_types<'a, A: Allocator, B: Allocator>(
         → Contains names.now.offsets (strings.own_at elf.now + strings.own_off own) }
     ensures { OnOk result (map section_value sections.new.items
         ≡ map section_value sections.old.items
-        ++ spec.section_with (placed names.now) (strings.own_name own) (content_of content.entry)) }
+        ++ spec.section_with (text_offset names.now) (strings.own_name own)
+        (content_of content.entry)) }
 {
     if let Some(content) = content {
         let name = own_name_offset(names, elf, own);
@@ -159,8 +160,8 @@ fn push_last<'a, A: Allocator, B: Allocator, C: Allocator>(
     requires small { symtab < 2 ^ 17 }
     ensures { OnOk result (map section_value sections.new.items
         ≡ map section_value sections.old.items
-        ++ last_sections elf.now (placed names.entry) symtab parts.now.symbols.items
-        (distinct_table (placed_texts names.entry))) }
+        ++ last_sections elf.now (text_offset names.entry) symtab parts.now.symbols.items
+        (distinct_table (texts_by_offset names.entry))) }
 {
     let symbols = parts.symbols.as_slice();
     let name = own_name_offset(&names, elf, OwnSection::Symbols);
@@ -187,9 +188,9 @@ fn push_all<'a, A: Allocator, B: Allocator, C: Allocator>(
     requires parts { AreParts elf.now names parts.now }
     ensures { OnOk result (map section_value sections.new.items
         ≡ map section_value sections.old.items
-        ++ all_sections elf.now (placed names.entry) (content_of types.entry)
+        ++ all_sections elf.now (text_offset names.entry) (content_of types.entry)
         (content_of extension.entry)
-        parts.now.symbols.items (distinct_table (placed_texts names.entry))) }
+        parts.now.symbols.items (distinct_table (texts_by_offset names.entry))) }
 {
     let symtab = symtab_number(elf, parts, types.is_some(), extension.is_some());
     let rows = parts.rows.as_slice();
@@ -218,14 +219,14 @@ fn fits(sections: &[WrittenSection<'_>], limit: u64) -> bool
     ensures { result
         ≡ nat_le (content_offset (section_at sections.now) (length sections.now)) limit }
 {
-    let mut place = 64;
+    let mut offset = 64;
     for k in 0..sections.len() {
         let len = sections[k].content.len();
         if len > FILE_LIMIT {
             return false;
         }
-        place += padded_len(len);
-        if place > limit {
+        offset += padded_len(len);
+        if offset > limit {
             return false;
         }
     }

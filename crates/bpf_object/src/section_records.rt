@@ -46,10 +46,10 @@ fn function_record(group: SectionGroup<'_>, k: usize) -> FunctionRecord
     ensures { spec.function_value result
         ≡ function_at (section group.entry.source) group.entry.start k }
 {
-    let place = group.start + 8 + records_len(Part::Functions, k);
+    let offset = group.start + 8 + records_len(Part::Functions, k);
     FunctionRecord {
-        offset: word(group.source, place) as u32,
-        type_id: word(group.source, place + 4) as u32,
+        offset: word(group.source, offset) as u32,
+        type_id: word(group.source, offset + 4) as u32,
     }
 }
 
@@ -60,9 +60,9 @@ fn line_record(group: SectionGroup<'_>, k: usize) -> LineRecord<'_>
     ensures { spec.numbered_value result
         ≡ numbered_line_at (section group.entry.source) group.entry.start k }
 {
-    let place = group.start + 8 + records_len(Part::Lines, k);
+    let offset = group.start + 8 + records_len(Part::Lines, k);
     LineRecord {
-        offset: word(group.source, place) as u32,
+        offset: word(group.source, offset) as u32,
         line: line_at(group.source, group.start, k),
     }
 }

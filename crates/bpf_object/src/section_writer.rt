@@ -6,7 +6,7 @@ ghost use Rattle.bpf_elf.specs.Kinds.{SHT_REL as spec_rel};
 ghost use Rattle.bpf_object.specs.Canonical.{written_section as spec_written};
 ghost use Rattle.bpf_object.specs.FileStrings.{HasFileStrings};
 ghost use Rattle.bpf_object.specs.Kept as spec;
-ghost use Rattle.bpf_object.specs.NotedStrings.{placed};
+ghost use Rattle.bpf_object.specs.NotedStrings.{text_offset};
 ghost use Rattle.bpf_object.specs.SectionRows as section_rows;
 ghost use Rattle.bpf_object.specs.Tables as tables;
 ghost use Rattle.bpf_object.specs.WrittenSections.{section_value};
@@ -84,7 +84,8 @@ fn kept_section<'a, B: Allocator>(
     requires numbers { numbers.now ≡ spec.numbers (spec.is_kept_section elf.now) (count elf.now) }
     requires content { content.now ≡ tables.kept_content elf.now i }
     ensures { section_value result
-        ≡ spec_written (order_of elf.now) (placed names.now) link (spec.kept_section elf.now i) }
+        ≡ spec_written (order_of elf.now) (text_offset names.now) link
+        (spec.kept_section elf.now i) }
 {
     let section = elf.section(i);
     WrittenSection {
@@ -120,7 +121,7 @@ fn push_if_kept<'a, A: Allocator, B: Allocator>(
     requires small { length rows.now < 2 ^ 63 }
     ensures { OnOk result (map section_value sections.new.items
         ≡ map section_value sections.old.items
-        ++ section_rows.written_if_kept elf.now (placed names.now) link i) }
+        ++ section_rows.written_if_kept elf.now (text_offset names.now) link i) }
 {
     if !is_kept_section(elf, i) {
         return Ok(());
@@ -146,7 +147,7 @@ pub(crate) fn push_kept<'a, A: Allocator, B: Allocator>(
     requires small { length rows.now < 2 ^ 63 }
     ensures { OnOk result (map section_value sections.new.items
         ≡ map section_value sections.old.items
-        ++ section_rows.written_kept elf.now (placed names.now) link (count elf.now)) }
+        ++ section_rows.written_kept elf.now (text_offset names.now) link (count elf.now)) }
 {
     let mut at = 0;
     for i in 0..elf.section_count() {

@@ -1,4 +1,4 @@
-//! The symbols that are kept, with the new places of their names and the new numbers of their
+//! The symbols that are kept, with the new offsets of their names and the new numbers of their
 //! sections (System V ABI, "Symbol Table").
 
 ghost use Rattle.std.specs.Prelude.{◌≡◌, ◌++◌, ◌&&◌, ◌<◌, ◌≤◌, ◌^◌, true, [], if◌then◌else◌, OnOk};
@@ -8,7 +8,7 @@ ghost use Rattle.bpf_elf.specs.Symbols.{is_kept_symbol, is_local, st_info, symbo
 ghost use Rattle.bpf_object.specs.Canonical.{symbol_bytes};
 ghost use Rattle.bpf_object.specs.FileStrings.{HasFileStrings};
 ghost use Rattle.bpf_object.specs.Kept as spec;
-ghost use Rattle.bpf_object.specs.NotedStrings.{placed};
+ghost use Rattle.bpf_object.specs.NotedStrings.{text_offset};
 ghost use Rattle.bpf_object.specs.SymbolRows as rows;
 
 use crate::file::push64;
@@ -76,7 +76,8 @@ fn push_symbol<A: Allocator, B: Allocator>(
     requires names { HasFileStrings elf.now names.now }
     requires numbers { numbers.now ≡ spec.numbers (spec.is_kept_section elf.now) (count elf.now) }
     ensures { OnOk result (out.new.items ≡ out.old.items
-        ++ symbol_bytes (order_of elf.now) (placed names.now) (spec.kept_symbol elf.now j)) }
+        ++ symbol_bytes (order_of elf.now) (text_offset names.now)
+        (spec.kept_symbol elf.now j)) }
 {
     let symbol = elf.symbol(j);
     let name = symbol_name_offset(names, elf, j);
@@ -96,7 +97,8 @@ fn push_if_kept<A: Allocator, B: Allocator>(
     requires names { HasFileStrings elf.now names.now }
     requires numbers { numbers.now ≡ spec.numbers (spec.is_kept_section elf.now) (count elf.now) }
     ensures { OnOk result (out.new.items ≡ out.old.items ++ (if is_kept_symbol elf.now j then
-        symbol_bytes (order_of elf.now) (placed names.now) (spec.kept_symbol elf.now j) else [])) }
+        symbol_bytes (order_of elf.now) (text_offset names.now) (spec.kept_symbol elf.now j)
+        else [])) }
 {
     if elf.is_kept_symbol(j) {
         push_symbol(out, names, elf, numbers, j)
@@ -115,7 +117,7 @@ pub(crate) fn push_symbols<A: Allocator, B: Allocator>(
     requires names { HasFileStrings elf.now names.now }
     requires numbers { numbers.now ≡ spec.numbers (spec.is_kept_section elf.now) (count elf.now) }
     ensures { OnOk result (out.new.items ≡ out.old.items
-        ++ rows.symbols_bytes elf.now (placed names.now) (symbol_count elf.now)) }
+        ++ rows.symbols_bytes elf.now (text_offset names.now) (symbol_count elf.now)) }
 {
     for j in 0..elf.symbol_count() {
         push_if_kept(out, names, elf, numbers, j)?;

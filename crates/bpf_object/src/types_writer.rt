@@ -7,7 +7,7 @@ ghost use Rattle.std.specs.Prelude.{◌≡◌, ◌+◌, ◌<◌, ◌≤◌, ◌=
 ghost use Rattle.std.specs.Prelude.{IfOk, MatchOption, OnOk};
 ghost use Rattle.std.specs.List.{All, Contains};
 ghost use Rattle.btf_types.specs.tables.TableInvariant.{IsTable};
-ghost use Rattle.bpf_canon.specs.btf.strings.{FirstUses.noted_all, NamesByOffset.placed_texts};
+ghost use Rattle.bpf_canon.specs.btf.strings.{FirstUses.noted_all, NamesByOffset.texts_by_offset};
 ghost use Rattle.bpf_canon.specs.btf.strings.DistinctNames.{distinct_table};
 ghost use Rattle.bpf_canon.specs.btf.write.NameOffsets.{all_offsets};
 ghost use Rattle.bpf_object.specs.declared.extension.Part.TheVariants.{Functions, Relocations};
@@ -67,7 +67,7 @@ fn note_both<A: Allocator + Copy>(
     note_groups(uses, x, Part::Relocations, relocations)
 }
 
-/// The places of the strings of both sections, or `None` if their table has more than 15 MiB.
+/// The offsets of the strings of both sections, or `None` if their table has more than 15 MiB.
 fn find_names<'t, A: Allocator + Copy>(
     alloc: A,
     sections: &FileSections<'t>,
@@ -78,9 +78,9 @@ fn find_names<'t, A: Allocator + Copy>(
     requires functions { spec.AreGroups x Functions functions.now }
     requires relocations { spec.AreGroups x Relocations relocations.now }
     requires strings { x.strings.now ≡ sections.now.strings }
-    ensures places { let names = spec.both_names sections.now (section x.entry) in
+    ensures offsets { let names = spec.both_names sections.now (section x.entry) in
         IfOk result (λ found. MatchOption found
-        (15728640 < length (distinct_table (placed_texts names))) (λ places. places ≡ names)) }
+        (15728640 < length (distinct_table (texts_by_offset names))) (λ found. found ≡ names)) }
     ensures table { IsTable sections.now }
 {
     let mut uses = FirstUses::new(alloc, sections.strings())?;
@@ -92,11 +92,11 @@ fn find_names<'t, A: Allocator + Copy>(
 fn is_short(types_len: usize, table_len: usize) -> bool
     ensures { result ≡ nat_le (24 + types_len + table_len) 15728640 }
 {
-    let room = TYPES_LIMIT - 24;
-    types_len <= room && table_len <= room - types_len
+    let capacity = TYPES_LIMIT - 24;
+    types_len <= capacity && table_len <= capacity - types_len
 }
 
-/// The section .BTF with the names at these places, or `None` if it has more than 15 MiB.
+/// The section .BTF with the names at these offsets, or `None` if it has more than 15 MiB.
 fn write_btf<A: Allocator + Copy>(
     alloc: A,
     order: Order,

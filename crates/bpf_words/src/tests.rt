@@ -160,14 +160,14 @@ fn other_names_are_refused(rt: HostRuntime) -> Result<(), Fail> {
 }
 
 /// How many bytes an arena has, before any are given away.
-const ROOM: usize = 448;
+const CAPACITY: usize = 448;
 
-/// An arena with `room` bytes left and no more to get.
-fn arena(alloc: Global, room: usize) -> Result<Bump<Global>, AllocError> {
-    let taken = [0u8; ROOM];
-    let bump = Bump::try_with_capacity(alloc, ROOM)?;
+/// An arena with `capacity` bytes left and no more to get.
+fn arena(alloc: Global, capacity: usize) -> Result<Bump<Global>, AllocError> {
+    let taken = [0u8; CAPACITY];
+    let bump = Bump::try_with_capacity(alloc, CAPACITY)?;
     bump.set_allocation_limit(Some(0));
-    bump.try_alloc_slice_copy(&taken[..ROOM.saturating_sub(room)])?;
+    bump.try_alloc_slice_copy(&taken[..CAPACITY.saturating_sub(capacity)])?;
     Ok(bump)
 }
 
@@ -209,8 +209,8 @@ struct Ends {
 /// Appends a value to `held` bytes in arenas of each size, from 0 to more than enough.
 fn count_ends(alloc: Global, held: &[u8], row: &WordRow) -> Result<Ends, AllocError> {
     let mut ends = Ends::default();
-    for room in 0..=64usize {
-        let bump = arena(alloc, room)?;
+    for capacity in 0..=64usize {
+        let bump = arena(alloc, capacity)?;
         match append(&bump, held, row) {
             Appended::NoRoom => {}
             Appended::Whole => ends.whole = ends.whole.saturating_add(1),

@@ -103,8 +103,8 @@ pub fn push_words<A: Allocator>(
     ensures ok { OnOk result (out.new.items ≡ out.old.items ++ flat_map (word32 order) words.now) }
     ensures err { OnErr result (out.new.items ≡ out.old.items) }
 {
-    let mut room = [0; 24];
-    let bytes = &mut room[..4 * words.len()];
+    let mut buffer = [0; 24];
+    let bytes = &mut buffer[..4 * words.len()];
     match order {
         Order::Little => LittleEndian::write_u32_into(words, bytes),
         Order::Big => BigEndian::write_u32_into(words, bytes),

@@ -41,7 +41,7 @@ verdict_line false = codes "different" ++ newline
 
 -- the line of a fault: how it starts, an offset in bytes or the number of a line, counted from 1, and the cause's name
 abbrev pub fault_line : List ℕ → ℕ → List ℕ → List ℕ
-fault_line start place cause = start ++ (decimal place ++ (codes " " ++ (cause ++ newline)))
+fault_line start position cause = start ++ (decimal position ++ (codes " " ++ (cause ++ newline)))
 
 -- the message for the fault sink, if any
 abbrev pub report_of : Outcome → List ℕ

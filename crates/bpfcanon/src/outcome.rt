@@ -97,13 +97,18 @@ pub fn report_line<E: ByteSink>(faults: &mut E, line: &[u8])
 
 /// Writes the line of a fault: how it starts, a byte offset or the number of a line, and the name
 /// of the cause.
-fn report_fault<E: ByteSink>(faults: &mut E, start: &'static [u8], place: u64, cause: &'static str)
+fn report_fault<E: ByteSink>(
+    faults: &mut E,
+    start: &'static [u8],
+    position: u64,
+    cause: &'static str,
+)
     requires { E.failures faults.old < u64.MAX }
     ensures { TookLine (sink_change E.ByteSink faults.old faults.new)
-        (fault_line start.now place cause.now) }
+        (fault_line start.now position cause.now) }
 {
     let mut buffer = Buffer::new();
-    let digits = buffer.format(place).as_bytes();
+    let digits = buffer.format(position).as_bytes();
     let parts: [&[u8]; 5] = [start, digits, b" ", cause.as_bytes(), b"\n"];
     report_parts(faults, parts.as_slice());
 }

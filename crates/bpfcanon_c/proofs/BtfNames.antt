@@ -29,7 +29,7 @@ text_in front body name k inside e b is =
         without_nul = is.without_nul;
         before = b ∷ take k body;
         after = rest;
-        place = omega (arith, length-take-le k body inside);
+        at_offset = omega (arith, length-take-le k body inside);
         is_there = ap (λ (t : List ℕ). b ∷ t) (cut ∙ ap (λ (t : List ℕ). t ++ rest) (sym (append_assoc (take k body) name (0 ∷ []))) ∙ append_assoc (take k body ++ name) (0 ∷ []) rest);
       };
       utf8 = is.utf8;
@@ -39,7 +39,7 @@ text_in front body name k inside e b is =
 pub named_in : (strings : List ℕ) (p : NamesPart) (at : ℕ) (name : List ℕ) → IsNamesPart strings p → HoldsName p at (length name) → IsName name → IsNamed strings at name
     → NameAt (names_section strings p) (name_word p.start at (length name)) name
 named_in strings p at [] part holds is named = record {
-  text = record { without_nul = is.without_nul; before = []; after = take (p.end - p.start) (drop p.start strings); place = refl; is_there = refl };
+  text = record { without_nul = is.without_nul; before = []; after = take (p.end - p.start) (drop p.start strings); at_offset = refl; is_there = refl };
   utf8 = is.utf8;
 }
 named_in strings p at (c ∷ cs) part holds is (inl e) = absurd cc
@@ -53,7 +53,7 @@ named_in strings p at (c ∷ cs) part holds is (inr e) =
     let m = p.end - p.start in
     let body = take m (drop p.start strings) in
     let short = part.short in
-    let place : name_word p.start at n ≡ k + 1 = name_word_is p.start at n some ∙ omega arith in
+    let at_offset : name_word p.start at n ≡ k + 1 = name_word_is p.start at n some ∙ omega arith in
     let parts : k + (m - k) ≡ m = omega arith in
     let begins : p.start + k ≡ at = omega arith in
     let behind : drop k body ≡ take (m - k) (drop at strings) =
@@ -62,7 +62,7 @@ named_in strings p at (c ∷ cs) part holds is (inr e) =
     in
     let there : take (n + 1) (drop k body) ≡ name ++ 0 ∷ [] = ap (λ (t : List ℕ). take (n + 1) t) behind ∙ take-take (n + 1) (m - k) (drop at strings) (omega arith) ∙ e in
     let long : length body ≡ m = length-take-le m (drop p.start strings) (omega (arith, length-drop p.start strings, part.inside, part.order)) in
-    subst (λ (j : ℕ). NameAt (0 ∷ body) j name) (sym place) (text_in [] body name k (omega arith) there 0 is)
+    subst (λ (j : ℕ). NameAt (0 ∷ body) j name) (sym at_offset) (text_in [] body name k (omega arith) there 0 is)
 
 -- ---- the ends of the section
 

@@ -129,11 +129,11 @@ too_long strings items p len types k d h before long = record {
 
 -- ---- where a record is
 
-pub index_here : (types : List TypeRow) (k left place : ℕ) (d : TypeRow) → k < length types → left + sum_by row_size (take k types) ≡ place - 24 → left < row_size (get_or types k d) → IsIndexAt types place k
-index_here types k left place d h sum low = record { inside = inl h; begins = omega arith; next = inl (omega (arith, sizes_are types k d h)) }
+pub index_here : (types : List TypeRow) (k left at_offset : ℕ) (d : TypeRow) → k < length types → left + sum_by row_size (take k types) ≡ at_offset - 24 → left < row_size (get_or types k d) → IsIndexAt types at_offset k
+index_here types k left at_offset d h sum low = record { inside = inl h; begins = omega arith; next = inl (omega (arith, sizes_are types k d h)) }
 
-pub index_last : (types : List TypeRow) (k left place index : ℕ) → length types ≤ k → left + sum_by row_size (take k types) ≡ place - 24 → index ≡ length types - 1 → IsIndexAt types place index
-index_last [] k left place index h sum e = record { inside = inr (refl, e); begins = omega (arith, sum_by-take-le row_size [] index); next = inr (omega arith) }
-index_last (r ∷ types) k left place index h sum e =
+pub index_last : (types : List TypeRow) (k left at_offset index : ℕ) → length types ≤ k → left + sum_by row_size (take k types) ≡ at_offset - 24 → index ≡ length types - 1 → IsIndexAt types at_offset index
+index_last [] k left at_offset index h sum e = record { inside = inr (refl, e); begins = omega (arith, sum_by-take-le row_size [] index); next = inr (omega arith) }
+index_last (r ∷ types) k left at_offset index h sum e =
     let all = ap (λ (ts : List TypeRow). sum_by row_size ts) (take_all k (r ∷ types) h) in
     record { inside = inl (omega arith); begins = omega (arith, all, sum_by-take-le row_size (r ∷ types) index); next = inr (omega arith) }

@@ -85,7 +85,7 @@ refused_faulty types items strings p b fault cause index plan is bytes fails sam
       absurd (cc);
   why = inl (
     fault.cause,
-    (same, inr (record { plan = p; planned = plan; place = fault.pos; first = subst (λ (x : List ℕ). Fails x (error.Fault fault)) is fails; at = at })),
+    (same, inr (record { plan = p; planned = plan; at_offset = fault.pos; first = subst (λ (x : List ℕ). Fails x (error.Fault fault)) is fails; at = at })),
   );
   line = refl;
 }

@@ -54,7 +54,7 @@ record NameFits (strings : List ℕ) (offset : ℕ) (name : List ℕ) : Type 0 w
 
 name_fits : (strings : List ℕ) (offset : ℕ) (name : List ℕ) → TextAt strings offset name → NameFits strings offset name
 name_fits strings offset name t =
-    record { short = omega (arith, ap length t.is_there, t.place, length-append (t.before ++ name) (0 ∷ t.after), length-append t.before name) }
+    record { short = omega (arith, ap length t.is_there, t.at_offset, length-append (t.before ++ name) (0 ∷ t.after), length-append t.before name) }
 
 -- ---- an item
 
@@ -73,7 +73,7 @@ empty_text (c ∷ cs) ends = record {
   without_nul = λ i h. absurd (omega arith);
   before = [];
   after = cs;
-  place = refl;
+  at_offset = refl;
   is_there = ap (λ (x : ℕ). x ∷ cs) ends.first;
 }
 
@@ -160,10 +160,10 @@ taken_named : (o : Order) (bytes : List ℕ) (at strings_at flag : ℕ) (i : Typ
     → item_name_at (item_parts i).kind strings_at offset ≡ strings_at + offset → NameAt r.strings offset (item_name i)
     → item_parts i ≡ words_row (item_parts i).kind flag (word32_at o bytes at) (word32_at o bytes (at + 4)) (word32_at o bytes (at + 8))
     → TakesItem o bytes at strings_at flag i is v
-taken_named o bytes at strings_at flag i is v r offset second more w len place name fields =
+taken_named o bytes at strings_at flag i is v r offset second more w len at_offset name fields =
     let kind = (item_parts i).kind in
     let f = name_fits r.strings offset (item_name i) name.text in
-    let is_at : item_name_at kind strings_at (word32_at o bytes at) ≡ strings_at + offset = ap (λ (n : ℕ). item_name_at kind strings_at n) w.word ∙ place in
+    let is_at : item_name_at kind strings_at (word32_at o bytes at) ≡ strings_at + offset = ap (λ (n : ℕ). item_name_at kind strings_at n) w.word ∙ at_offset in
     record {
       room = subst (λ (n : ℕ). at + n ≤ length bytes) len w.inside;
       fields = fields;
@@ -238,7 +238,7 @@ pub record NextItem (o : Order) (bytes : List ℕ) (at strings_at kind flag : �
   pub fields : item_parts item ≡ words_row kind flag (word32_at o bytes at) (word32_at o bytes (at + 4)) (word32_at o bytes (at + 8))
   pub fits : item_name_at kind strings_at (word32_at o bytes at) < 2 ^ 32
   pub named : NameAt bytes (item_name_at kind strings_at (word32_at o bytes at)) (item_name item)
-  pub place : item_name_at kind strings_at (word32_at o bytes at) ≡ header_strings o bytes + item_name_off o bytes (at, item)
+  pub at_offset : item_name_at kind strings_at (word32_at o bytes at) ≡ header_strings o bytes + item_name_off o bytes (at, item)
   pub long : length (item_name item) < 2 ^ 32
   pub rest : Rest o bytes (at + item_bytes kind) strings_at flag (drop (k + 1) is) v
 
@@ -261,7 +261,7 @@ of_kind o bytes at strings_at kind flag is k v i there same t =
       fields = subst (λ (n : ℕ). item_parts i ≡ words_row n flag (word32_at o bytes at) (word32_at o bytes (at + 4)) (word32_at o bytes (at + 8))) same t.fields;
       fits = subst (λ (n : ℕ). item_name_at n strings_at (word32_at o bytes at) < 2 ^ 32) same t.fits;
       named = subst (λ (n : ℕ). NameAt bytes (item_name_at n strings_at (word32_at o bytes at)) (item_name i)) same t.named;
-      place =
+      at_offset =
           ap (λ (n : ℕ). item_name_at n strings_at (word32_at o bytes at)) (sym same)
           ∙ new_name_offset o bytes at strings_at i
           ∙ ap (λ (n : ℕ). n + item_name_off o bytes (at, i)) t.rest.strings_are;

@@ -65,17 +65,17 @@ items_within v k h =
 
 pub says_item : (o : Order) (bytes : List ℕ) (row : ItemRow) (name at : ℕ) (i : TypeItem) → row ≡ item_row name i → name ≡ strings_at o bytes + item_name_off o bytes (at, i)
     → NameAt bytes name (item_name i) → SaysItem o bytes row (at, i)
-says_item o bytes row name at i e place t =
+says_item o bytes row name at i e at_offset t =
     let same : name ≡ row.name = sym (ap (λ (x : ItemRow). x.name) e) in
-    record { form = e ∙ ap (λ (n : ℕ). item_row n i) place; named = subst (λ (n : ℕ). NameAt bytes n (item_name i)) same t }
+    record { form = e ∙ ap (λ (n : ℕ). item_row n i) at_offset; named = subst (λ (n : ℕ). NameAt bytes n (item_name i)) same t }
 
 pub says_type : (o : Order) (bytes : List ℕ) (row : TypeRow) (name first count : ℕ) (head : TypeHead) (t : PlacedType) → row ≡ type_row name first count head
     → name ≡ strings_at o bytes + word32_at o bytes t.at → first ≡ t.first → head ≡ t.type.head → count ≡ length t.type.items → NameAt bytes name (head_name t.type.head) → SaysType o bytes row t
-says_type o bytes row name first count head t e place f h c n =
+says_type o bytes row name first count head t e at_offset f h c n =
     let same : name ≡ row.name = sym (ap (λ (x : TypeRow). x.name) e) in
     record {
       form =
-          e ∙ ap (λ (x : ℕ). type_row x first count head) place
+          e ∙ ap (λ (x : ℕ). type_row x first count head) at_offset
           ∙ ap (λ (x : ℕ). type_row (strings_at o bytes + word32_at o bytes t.at) x count head) f
           ∙ ap (λ (x : TypeHead). type_row (strings_at o bytes + word32_at o bytes t.at) t.first count x) h
           ∙ ap (λ (x : ℕ). type_row (strings_at o bytes + word32_at o bytes t.at) t.first x t.type.head) c;

@@ -70,7 +70,7 @@ named_in b pos len strings e within offset name t =
       without_nul = t.without_nul;
       before = front ++ t.before;
       after = t.after ++ rest;
-      place = omega (arith, length-append front t.before, t.place, length-take-le pos b within);
+      at_offset = omega (arith, length-append front t.before, t.at_offset, length-take-le pos b within);
       is_there = cut ∙ ap (λ (x : List ℕ). front ++ (x ++ rest)) t.is_there ∙ simp append_assoc;
     }
 

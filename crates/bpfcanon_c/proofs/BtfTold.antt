@@ -129,10 +129,10 @@ type_encodes strings p types items row r part told valid held =
     in
     let low = flag_below h flag (flag_encodes h b) in
     let word : info (kind_number h) (record_vlen r) flag < 2 ^ 32 = omega (arith, kind_below h, vlen_below h r.items valid.items_fit, low) in
-    let place : offset < 2 ^ 32 = name_word_low p.start row.name (length (head_name h)) in
+    let at_offset : offset < 2 ^ 32 = name_word_low p.start row.name (length (head_name h)) in
     let fit : IsWords (front ++ words) =
     IsWords-append front words
-    (IsWords-cons offset (info (kind_number h) (record_vlen r) flag ∷ head_third h ∷ head_tail h) place
+    (IsWords-cons offset (info (kind_number h) (record_vlen r) flag ∷ head_third h ∷ head_tail h) at_offset
     (IsWords-cons (info (kind_number h) (record_vlen r) flag) (head_third h ∷ head_tail h) word (IsWords-cons (head_third h) (head_tail h) (third_below h valid.head_in_range) (tail_fits h valid.head_in_range))))
     its.fits
     in

@@ -65,27 +65,27 @@ next_insn o bytes k at out d h =
     let before = file_of o (take k d.insns) in
     let encoded = encoding o c.insn in
     let whole : bytes ≡ before ++ (encoded ++ c.after) = d.file.1 ∙ c.whole in
-    let rest : drop at bytes ≡ encoded ++ c.after = ap (λ (x : List ℕ). drop at x) whole ∙ drop_at before (encoded ++ c.after) at (sym d.place) in
+    let rest : drop at bytes ≡ encoded ++ c.after = ap (λ (x : List ℕ). drop at x) whole ∙ drop_at before (encoded ++ c.after) at (sym d.at_offset) in
     let long : length bytes ≡ length before + (length encoded + length c.after) =
     omega (arith, ap length whole, length-append before (encoded ++ c.after), length-append encoded c.after)
     in
     let row = row_at at c.insn in
     let longer : length (file_of o (take (k + 1) d.insns)) ≡ at + length encoded =
-    omega (arith, ap length (ap (file_of o) c.more ∙ flat_map-append (encoding o) (take k d.insns) (c.insn ∷ [])), length-append before (file_of o (c.insn ∷ [])), length-append encoded [], d.place)
+    omega (arith, ap length (ap (file_of o) c.more ∙ flat_map-append (encoding o) (take k d.insns) (c.insn ∷ [])), length-append before (file_of o (c.insn ∷ [])), length-append encoded [], d.at_offset)
     in
     record {
       insn = c.insn;
       begins = (c.is_insn d.file.0, (c.after, take_all (length bytes - at) (drop at bytes) (omega (arith, length-drop at bytes)) ∙ rest));
-      inside = omega (arith, long, d.place);
+      inside = omega (arith, long, d.at_offset);
       more = record {
         insns = d.insns;
         file = d.file;
         counted = omega (arith, d.counted, length-set out k row);
-        place = sym longer;
+        at_offset = sym longer;
         rows =
             take_more_set out k row h
             ∙ ap (λ (x : List InsnRow). x ++ row ∷ []) d.rows
-            ∙ ap (λ (n : ℕ). rows_from o 0 (take k d.insns) ++ row_at n c.insn ∷ []) d.place
+            ∙ ap (λ (n : ℕ). rows_from o 0 (take k d.insns) ++ row_at n c.insn ∷ []) d.at_offset
             ∙ ap (λ (n : ℕ). rows_from o 0 (take k d.insns) ++ row_at n c.insn ∷ []) (sym (zero-add (length before)))
             ∙ sym (rows_push o 0 (take k d.insns) c.insn)
             ∙ ap (rows_from o 0) (sym c.more);
@@ -111,7 +111,7 @@ decoded_rows o bytes count h = record {
 }
 
 pub decodes_none : (o : Order) (bytes : List ℕ) (out : List InsnRow) → HasInsns o bytes (length out) → DecodesTo o bytes 0 0 out
-decodes_none o bytes out h = record { insns = h.insns; file = h.file; counted = h.counted; place = refl; rows = refl }
+decodes_none o bytes out h = record { insns = h.insns; file = h.file; counted = h.counted; at_offset = refl; rows = refl }
 
 pub decodes_all : (o : Order) (bytes : List ℕ) (k at : ℕ) (out : List InsnRow) → DecodesTo o bytes k at out → length out ≤ k → IsDecoded o bytes out
 decodes_all o bytes k at out d h =
@@ -168,7 +168,7 @@ encodes_none to rows out s = record {
   says = s.says;
   each = s.each;
   long = s.long ∙ length-file_same Little to s.insns;
-  place = refl;
+  at_offset = refl;
   bytes = refl;
 }
 
@@ -193,7 +193,7 @@ next_bytes to rows k at out d bytes len e h made counted =
     ap (file_of to) c.more ∙ flat_map-append (encoding to) (take k e.insns) (c.insn ∷ []) ∙ ap (λ (x : List ℕ). before ++ x) (append-nil encoded)
     in
     let inside : at + len ≤ length out =
-    omega (arith, e.long, ap length c.whole, length-append before (encoded ++ c.after), length-append encoded c.after, e.place, ap length raw, counted)
+    omega (arith, e.long, ap length c.whole, length-append before (encoded ++ c.after), length-append encoded c.after, e.at_offset, ap length raw, counted)
     in
     let long : length (take len bytes) ≡ len = omega (arith, ap length is, ap length raw, counted) in
     record {
@@ -206,7 +206,7 @@ next_bytes to rows k at out d bytes len e h made counted =
         each = e.each;
         long =
             omega (arith, e.long, ap length kept, length-drop (at + len) new, length-drop (at + len) out, ap length written, length-take (at + len) new, length-append (take at out) (take len bytes), length-take-le at out (omega arith));
-        place = omega (arith, e.place, ap length raw, counted, ap length longer, length-append before encoded);
+        at_offset = omega (arith, e.at_offset, ap length raw, counted, ap length longer, length-append before encoded);
         bytes = written ∙ ap (λ (x : List ℕ). x ++ take len bytes) e.bytes ∙ ap (λ (x : List ℕ). before ++ x) is ∙ sym longer;
       };
     }
@@ -215,7 +215,7 @@ pub encodes_all : (to : Order) (rows : List InsnRow) (k at : ℕ) (out : List �
 encodes_all to rows k at out e h =
     let long = AllZip-long SaysInsn rows e.insns e.says in
     let whole : take k e.insns ≡ e.insns = take_all k e.insns (omega arith) in
-    let end : at ≡ length out = e.place ∙ ap (λ (l : List Insn). length (file_of to l)) whole ∙ sym e.long in
+    let end : at ≡ length out = e.at_offset ∙ ap (λ (l : List Insn). length (file_of to l)) whole ∙ sym e.long in
     record {
       insns = e.insns;
       says = e.says;

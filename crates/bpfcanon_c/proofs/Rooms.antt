@@ -6,9 +6,9 @@ use Rattle.bpf_canon.proofs.InsnLemmas.FrontLaws.{length-file_same}
 use Rattle.bpfcanon_c.specs.declared.answer.{FaultCode.FaultCode, Ending.Ending}
 use Rattle.bpfcanon_c.specs.declared.answer.Ending.TheVariants.{Written, Types, Groups, Accepted, Same, Different, First, Second, Memory, Room}
 use Rattle.bpfcanon_c.specs.declared.answer.Ending.TheVariants as ending
-use Rattle.bpfcanon_c.specs.{Answers.order_number, Answers.FillsRoom, Outputs.EndsOutput, Outputs.EndsInOrder}
+use Rattle.bpfcanon_c.specs.{Answers.order_number, Answers.FillsBuffer, Outputs.EndsOutput, Outputs.EndsInOrder}
 
-pub ends_output : (IsOutput : List ℕ → Type 0) (IsFault : FaultCode → Type 0) (old new out : List ℕ) (e : Ending) → IsOutput out → FillsRoom out old new e
+pub ends_output : (IsOutput : List ℕ → Type 0) (IsFault : FaultCode → Type 0) (old new out : List ℕ) (e : Ending) → IsOutput out → FillsBuffer out old new e
     → EndsOutput IsOutput IsFault old new e
 ends_output IsOutput IsFault old new out (Written n) h p = (out, (h, p))
 ends_output IsOutput IsFault old new out (Room n) h p = (out, (h, p))

@@ -66,7 +66,7 @@ names_order n (Some o) = n ≡ order_number o
 names_order n None = (o : Order) → n ≡ order_number o → ⊥
 
 -- the buffer begins with the bytes, and the rest of it is unchanged; or the buffer is too short, and unchanged
-abbrev pub FillsRoom : List ℕ → List ℕ → List ℕ → Ending → Type 0
-FillsRoom bytes old new (Written n) = (n ≡ length bytes) × (new ≡ bytes ++ drop (length bytes) old)
-FillsRoom bytes old new (Room n) = (n ≡ length bytes) × ((length old < n) × (new ≡ old))
-FillsRoom bytes old new _ = ⊥
+abbrev pub FillsBuffer : List ℕ → List ℕ → List ℕ → Ending → Type 0
+FillsBuffer bytes old new (Written n) = (n ≡ length bytes) × (new ≡ bytes ++ drop (length bytes) old)
+FillsBuffer bytes old new (Room n) = (n ≡ length bytes) × ((length old < n) × (new ≡ old))
+FillsBuffer bytes old new _ = ⊥

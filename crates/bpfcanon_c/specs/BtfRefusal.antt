@@ -53,17 +53,17 @@ pub record IsUnwritten (strings : List ℕ) (types : List TypeRow) (items : List
 -- ---- then, the first fault of their BTF
 
 -- the record of this type is the last that begins at or before an offset of their BTF, which has a header of 24 bytes
-pub record IsIndexAt (types : List TypeRow) (place index : ℕ) : Type 0 where
+pub record IsIndexAt (types : List TypeRow) (at_offset index : ℕ) : Type 0 where
   pub inside : (index < length types) ⊎ ((length types ≡ 0) × (index ≡ 0))
-  pub begins : sum_by row_size (take index types) ≤ place - 24
-  pub next : (place - 24 < sum_by row_size (take (index + 1) types)) ⊎ (length types ≤ index + 1)
+  pub begins : sum_by row_size (take index types) ≤ at_offset - 24
+  pub next : (at_offset - 24 < sum_by row_size (take (index + 1) types)) ⊎ (length types ≤ index + 1)
 
 pub record IsFaulty (strings : List ℕ) (types : List TypeRow) (items : List ItemRow) (cause : BtfCause) (index : ℕ) : Type 0 where
   pub plan : Plan
   pub planned : IsPlan strings types items plan
-  pub place : ℕ
-  pub first : IsFirst (plain plan types items strings) (record { pos = place; cause = cause })
-  pub at : IsIndexAt types place index
+  pub at_offset : ℕ
+  pub first : IsFirst (plain plan types items strings) (record { pos = at_offset; cause = cause })
+  pub at : IsIndexAt types at_offset index
 
 -- ---- then, the first record that isn't that of its type
 

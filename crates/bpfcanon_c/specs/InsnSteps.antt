@@ -19,7 +19,7 @@ pub record DecodesTo (o : Order) (bytes : List ℕ) (k at : ℕ) (out : List Ins
   pub insns : List Insn
   pub file : InsnFile o bytes insns
   pub counted : length out ≡ length insns
-  pub place : at ≡ length (file_of o (take k insns))
+  pub at_offset : at ≡ length (file_of o (take k insns))
   pub rows : take k out ≡ rows_from o 0 (take k insns)
 
 -- this is the record, at an offset of its file, of the instruction that the bytes begin with, and the length of its encoding
@@ -41,5 +41,5 @@ pub record EncodesTo (to : Order) (rows : List InsnRow) (k at : ℕ) (out : List
   pub says : AllZip SaysInsn rows insns
   pub each : All IsInsn insns
   pub long : length out ≡ length (file_of to insns)
-  pub place : at ≡ length (file_of to (take k insns))
+  pub at_offset : at ≡ length (file_of to (take k insns))
   pub bytes : take at out ≡ file_of to (take k insns)

@@ -7,7 +7,7 @@ use Rattle.btf_types.specs.Faults.{IsFirst}
 use Rattle.bpfcanon_c.specs.declared.answer.{Answer.Answer, FaultCode.FaultCode}
 use Rattle.bpfcanon_c.specs.declared.answer.Ending.{Ending, TheVariants.Written, TheVariants.First, TheVariants.Memory, TheVariants.Room}
 use Rattle.bpfcanon_c.specs.declared.answer.Ending.TheVariants as ending
-use Rattle.bpfcanon_c.specs.Answers.{answer_of, code_of_btf, code_of_slot, order_number, FillsRoom}
+use Rattle.bpfcanon_c.specs.Answers.{answer_of, code_of_btf, code_of_slot, order_number, FillsBuffer}
 
 -- The answer is that of an ending for which this holds. No two endings of a call have one answer.
 pub record IsAnswerOf (Holds : Ending → Type 0) (a : Answer) : Type 0 where
@@ -32,8 +32,8 @@ pub record IsInsnCode (o : Order) (bytes : List ℕ) (code : FaultCode) : Type 0
 
 -- How a call ends that writes what `IsOutput` says, or reports what `IsFault` says. The buffer is unchanged unless bytes were written.
 abbrev pub EndsOutput : (List ℕ → Type 0) → (FaultCode → Type 0) → List ℕ → List ℕ → Ending → Type 0
-EndsOutput IsOutput IsFault old new (Written n) = (out : List ℕ) × (IsOutput out × FillsRoom out old new (Written n))
-EndsOutput IsOutput IsFault old new (Room n) = (out : List ℕ) × (IsOutput out × FillsRoom out old new (Room n))
+EndsOutput IsOutput IsFault old new (Written n) = (out : List ℕ) × (IsOutput out × FillsBuffer out old new (Written n))
+EndsOutput IsOutput IsFault old new (Room n) = (out : List ℕ) × (IsOutput out × FillsBuffer out old new (Room n))
 EndsOutput IsOutput IsFault old new (First code) = IsFault code × (new ≡ old)
 EndsOutput IsOutput IsFault old new Memory = new ≡ old
 EndsOutput IsOutput IsFault old new _ = ⊥

@@ -209,14 +209,14 @@ pub fn order_from(number: u32) -> Option<Order>
 
 /// Copies an output to the start of a buffer. Returns `Written` with its length in bytes, or `Room`
 /// with that length if the buffer is shorter, which is then unchanged.
-pub fn put(bytes: &[u8], room: &mut [u8]) -> Ending
-    ensures { spec.FillsRoom bytes.now room.old room.new result }
+pub fn put(bytes: &[u8], buffer: &mut [u8]) -> Ending
+    ensures { spec.FillsBuffer bytes.now buffer.old buffer.new result }
 {
     let len = bytes.len();
-    if room.len() < len {
+    if buffer.len() < len {
         return Ending::Room(len);
     }
-    let (front, _) = room.split_at_mut(len);
+    let (front, _) = buffer.split_at_mut(len);
     front.copy_from_slice(bytes);
     Ending::Written(len)
 }

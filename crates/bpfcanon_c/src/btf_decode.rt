@@ -188,7 +188,7 @@ fn put_items(
     order: Order,
     bytes: &[u8],
     strings_at: u32,
-    place: ItemsAt,
+    items_at: ItemsAt,
     table: &BtfView<'_>,
     id: u32,
     out: &mut [ItemRow],
@@ -197,25 +197,25 @@ fn put_items(
     requires last { id ≤ length table.now }
     requires count { length out.old ≡ length (record_at table.now id).items }
     requires few { length out.old < 2 ^ 16 }
-    requires kinds { All (λ i. (item_parts i).kind ≡ place.kind) (record_at table.now id).items }
-    requires left { rest.Rest order bytes.now place.start strings_at place.flag
+    requires kinds { All (λ i. (item_parts i).kind ≡ items_at.kind) (record_at table.now id).items }
+    requires left { rest.Rest order bytes.now items_at.start strings_at items_at.flag
         (record_at table.now id).items (drop id table.now) }
     ensures left { rest.Rest order bytes.now result strings_at 0 [] (drop id table.now) }
     ensures end { result
-        ≡ place.start + rest.item_bytes place.kind * length (record_at table.now id).items }
+        ≡ items_at.start + rest.item_bytes items_at.kind * length (record_at table.now id).items }
     ensures said { AllZip (SaysItem order bytes.now) out.new
-        (items_from place.start (rest.item_bytes place.kind) (record_at table.now id).items) }
+        (items_from items_at.start (rest.item_bytes items_at.kind) (record_at table.now id).items) }
 {
-    let mut at = place.start;
+    let mut at = items_at.start;
     for k in 0..out.len() {
-        let name = item_name_at(place.kind, strings_at, get32(order, bytes, at));
+        let name = item_name_at(items_at.kind, strings_at, get32(order, bytes, at));
         let name_len = item_name_len(bytes, name, table, id, k as u32);
         out[k] = ItemRow {
             name,
             name_len,
-            ..item_at(order, bytes, at, place.kind, place.flag)
+            ..item_at(order, bytes, at, items_at.kind, items_at.flag)
         };
-        at += item_len(place.kind);
+        at += item_len(items_at.kind);
     }
     at
 }
@@ -242,8 +242,8 @@ fn put_all(
     types: &mut [TypeRow],
     items: &mut [ItemRow],
 )
-    requires types_room { length table.now ≤ length types.old }
-    requires items_room { length (items_of table.now) ≤ length items.old }
+    requires types_within { length table.now ≤ length types.old }
+    requires items_within { length (items_of table.now) ≤ length items.old }
     requires few { length (items_of table.now) < 2 ^ 32 }
     requires left { rest.Rest order bytes.now start strings_at 0 [] table.now }
     ensures types { rest.Writes (SaysType order bytes.now) (placed start 0 table.now)
@@ -259,14 +259,14 @@ fn put_all(
         let count = table.item_count(id);
         let name = strings_at + get32(order, bytes, at);
         types[k as usize] = type_row(name, first as u32, count as u16, head);
-        let place = ItemsAt {
+        let items_at = ItemsAt {
             start: at + head_len(head),
             kind: item_kind(head),
             flag: flag_of(get32(order, bytes, at + 4)),
         };
         let after = first + count as usize;
         let part = &mut items[first..after];
-        at = put_items(order, bytes, strings_at, place, table, id, part);
+        at = put_items(order, bytes, strings_at, items_at, table, id, part);
         first = after;
     }
 }

@@ -242,8 +242,8 @@ fn push_item(out: &mut Vec<u8>, start: usize, kind: u8, item: &ItemRow) -> Resul
     let high = (item.value / 0x1_0000_0000) as u32;
     match kind {
         STRUCT | UNION => {
-            let place = item.bit_offset.wrapping_add(item.width % 0x100 << 24);
-            push_words(out, Order::Little, &[name, item.target, place])
+            let offset_word = item.bit_offset.wrapping_add(item.width % 0x100 << 24);
+            push_words(out, Order::Little, &[name, item.target, offset_word])
         }
         ENUM => push_words(out, Order::Little, &[name, low]),
         ENUM64 => push_words(out, Order::Little, &[name, low, high]),

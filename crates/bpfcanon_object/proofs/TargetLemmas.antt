@@ -13,12 +13,12 @@ pub record AreWithinBefore (order : Order) (target : GroupSet) (bytes : List ℕ
   pub before : List Insn
   pub after : List Insn
   pub file : InsnFile order bytes (before ++ after)
-  pub place : at ≡ length (file_of order before)
+  pub at_offset : at ≡ length (file_of order before)
   pub within : All (IsWithin (Some target)) before
 
 pub at_start : (order : Order) (target : GroupSet) (bytes : List ℕ) (insns : List Insn) → InsnFile order bytes insns → AreWithinBefore order target bytes 0
 at_start order target bytes insns file =
-    record { before = []; after = insns; file = file; place = refl; within = All-nil (IsWithin (Some target)) }
+    record { before = []; after = insns; file = file; at_offset = refl; within = All-nil (IsWithin (Some target)) }
 
 -- without a target each instruction is in it
 pub all_within : (insns : List Insn) → All (IsWithin None) insns
@@ -47,7 +47,7 @@ module _ (order : Order) (target : GroupSet) (bytes : List ℕ) (at : ℕ) (h : 
   rest_is : take (length bytes - at) (drop at bytes) ≡ file_of order h.after
   rest_is =
       take_all (length bytes - at) (drop at bytes) (omega (arith, length-drop at bytes))
-      ∙ ap (λ (n : ℕ). drop n bytes) h.place ∙ ap (drop (length (file_of order h.before))) whole
+      ∙ ap (λ (n : ℕ). drop n bytes) h.at_offset ∙ ap (drop (length (file_of order h.before))) whole
       ∙ drop-append_seam (file_of order h.before) (file_of order h.after)
 
   each_after : All IsInsn h.after
@@ -75,7 +75,7 @@ module _ (order : Order) (target : GroupSet) (bytes : List ℕ) (at : ℕ) (h : 
         before = h.before ++ i ∷ [];
         after = next.0;
         file = subst P (sym (append_assoc h.before (i ∷ []) next.0)) (file_with i next.0 next.1);
-        place = omega (arith, h.place, b.1, ap length one, length-append (file_of order h.before) (encoding order i));
+        at_offset = omega (arith, h.at_offset, b.1, ap length one, length-append (file_of order h.before) (encoding order i));
         within = All-push (IsWithin (Some target)) h.before i h.within within;
       }
 
@@ -84,7 +84,7 @@ module _ (order : Order) (target : GroupSet) (bytes : List ℕ) (at : ℕ) (h : 
   smaller i len b within =
       let next = moved_on i len b within in
       let all : bytes ≡ file_of order next.before ++ file_of order next.after = next.file.1 ∙ flat_map-append (encoding order) next.before next.after in
-      omega (arith, next.place, ap length all, length-append (file_of order next.before) (file_of order next.after), b.1, at_least_a_slot order i)
+      omega (arith, next.at_offset, ap length all, length-append (file_of order next.before) (file_of order next.after), b.1, at_least_a_slot order i)
 
   pub outside_at : (i : Insn) (group : Group) → BeginsWith order i (take (length bytes - at) (drop at bytes)) → holds target group ≡ false → group ≡ group_of i
       → IsFirstOutside order (Some target) bytes at group
@@ -98,7 +98,7 @@ module _ (order : Order) (target : GroupSet) (bytes : List ℕ) (at : ℕ) (h : 
         file = file_with i next.0 next.1;
         within = h.within;
         outside = λ yes. cc;
-        place = h.place;
+        at_offset = h.at_offset;
         of_insn = e;
       }
 

@@ -1,4 +1,4 @@
--- What is reported of code: of each section of code the first place where the bytes aren't an instruction (RFC 9669 section 3), or else the
+-- What is reported of code: of each section of code the first offset where the bytes aren't an instruction (RFC 9669 section 3), or else the
 -- first instruction outside the target.
 use Rattle.std.specs.Prelude.{◌≡◌, ◌++◌, ◌&&◌, if◌then◌else◌, ℕ, zero, suc, Bool, true, false, List, [], Option, Some, None, All, length, nat_lt}
 use Rattle.std.specs.Str.Lossy.{utf8_lossy}
@@ -22,7 +22,7 @@ abbrev pub IsReason : Order → Option GroupSet → List ℕ → ℕ → Reason 
 IsReason order target bytes pos (Fault cause) = IsInsnFault order bytes (record { pos = pos; cause = cause })
 IsReason order target bytes pos (Outside group) = IsFirstOutside order target bytes pos group
 
--- the bytes are instructions in the target, or this is the first place where they aren't
+-- the bytes are instructions in the target, or this is the first offset where they aren't
 abbrev pub IsFound : Order → Option GroupSet → List ℕ → Option Finding → Type 0
 IsFound order target bytes None = (insns : List Insn) × (InsnFile order bytes insns × All (IsWithin target) insns)
 IsFound order target bytes (Some found) = IsReason order target bytes found.pos found.reason

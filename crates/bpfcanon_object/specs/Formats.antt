@@ -63,8 +63,8 @@ github_line name pos cause =
     ++ (codes ": " ++ (decimal pos ++ (codes ": " ++ (github_text Message cause ++ newline)))))))
 
 -- where code is reported, and why: SECTION+0xOFFSET: REASON
-abbrev pub code_place : List ℕ → Finding → List ℕ
-code_place section found =
+abbrev pub code_location : List ℕ → Finding → List ℕ
+code_location section found =
     escaped section ++ (codes "+0x" ++ (digits 16 false found.pos ++ (codes ": " ++ reason_text found.reason)))
 
 -- the name of a source file. What isn't UTF-8 in it becomes U+FFFD
@@ -100,9 +100,9 @@ json_code section found source =
 -- the line for what is reported of code: the section, the offset there, the reason, and the source line if it is known
 abbrev pub code_line : Format → List ℕ → List ℕ → Finding → Option Line → List ℕ
 code_line Text name section found source =
-    escaped name ++ (codes ": " ++ (code_place section found ++ (text_source source ++ newline)))
+    escaped name ++ (codes ": " ++ (code_location section found ++ (text_source source ++ newline)))
 code_line Json name section found source = json_line name (json_code section found source)
 code_line Github name section found source =
     codes "::error " ++ (github_source name source
     ++ (codes "::" ++ (github_text Message (escaped name)
-    ++ (codes ": " ++ (github_text Message (code_place section found) ++ newline)))))
+    ++ (codes ": " ++ (github_text Message (code_location section found) ++ newline)))))

@@ -30,5 +30,5 @@ pub record IsFirstOutside (order : Order) (target : Option GroupSet) (bytes : Li
   pub file : InsnFile order bytes (before ++ insn ∷ after)
   pub within : All (IsWithin target) before
   pub outside : ¬ IsWithin target insn
-  pub place : pos ≡ length (file_of order before)
+  pub at_offset : pos ≡ length (file_of order before)
   pub of_insn : group ≡ group_of insn

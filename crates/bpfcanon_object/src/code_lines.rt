@@ -17,13 +17,13 @@ use bpf_insn::GroupSet;
 use bpf_object::{AcceptedObject, SourceLine};
 use std::alloc::{AllocError, Allocator};
 
-/// A place in a section, and why it is reported: `SECTION+0xOFFSET: REASON`.
-fn code_place<A: Allocator + Copy>(
+/// A location in a section, and why it is reported: `SECTION+0xOFFSET: REASON`.
+fn code_location<A: Allocator + Copy>(
     alloc: A,
     section: &str,
     found: Finding,
 ) -> Result<String<A>, AllocError>
-    ensures { IfOk result (λ place. string_bytes place ≡ spec.code_place section.now found) }
+    ensures { IfOk result (λ text. string_bytes text ≡ spec.code_location section.now found) }
 {
     let section = escaped(alloc, section)?;
     let Finding { pos, reason } = found;
@@ -31,7 +31,7 @@ fn code_place<A: Allocator + Copy>(
     format!(in alloc; "{section}+0x{pos:x}: {reason}")
 }
 
-/// The members of a JSON object for a place in a section, why it is reported, and its source line.
+/// The members of a JSON object for a location in a section, why it is reported, and its source line.
 fn json_code<A: Allocator + Copy>(
     alloc: A,
     section: &str,
@@ -63,9 +63,9 @@ fn code_line<A: Allocator + Copy>(
     match format {
         Format::Text => {
             let name = escaped(alloc, name)?;
-            let place = code_place(alloc, section, found)?;
+            let location = code_location(alloc, section, found)?;
             let source = text_source(alloc, source)?;
-            format!(in alloc; "{name}: {place}{source}\n")
+            format!(in alloc; "{name}: {location}{source}\n")
         }
         Format::Json => {
             let members = json_code(alloc, section, found, source)?;
@@ -74,9 +74,9 @@ fn code_line<A: Allocator + Copy>(
         Format::Github => {
             let source = github_source(alloc, name, source)?;
             let name = escaped(alloc, name)?;
-            let place = code_place(alloc, section, found)?;
+            let location = code_location(alloc, section, found)?;
             let name = github_text(alloc, Part::Message, name.as_str())?;
-            let text = github_text(alloc, Part::Message, place.as_str())?;
+            let text = github_text(alloc, Part::Message, location.as_str())?;
             format!(in alloc; "::error {source}::{name}: {text}\n")
         }
     }

@@ -1,4 +1,4 @@
-//! What `check` reports of code: a place in a section, and why.
+//! What `check` reports of code: an offset in a section, and why.
 
 ghost use Rattle.std.specs.Prelude.{◌≡◌, IfOk, string_bytes};
 ghost use Rattle.bpfcanon_object.specs.Findings as spec;

@@ -78,8 +78,8 @@ pub fn github_source<A: Allocator + Copy>(
     name: &str,
     source: Option<SourceLine<'_>>,
 ) -> Result<String<A>, AllocError>
-    ensures { IfOk result (λ place.
-        string_bytes place ≡ spec.github_source name.now (option_map line_value source.entry)) }
+    ensures { IfOk result (λ location.
+        string_bytes location ≡ spec.github_source name.now (option_map line_value source.entry)) }
 {
     match source {
         Some(source) => {

@@ -62,14 +62,14 @@ frame_cancel o f g x y p q e =
     words_cancel o f g x y p.words q.words size e
 
 -- the record that a frame begins has no fault, whatever follows
-pub frame_has_none : (o : Order) (f x : List ℕ) (place : ℕ) (cause : BtfCause) → IsFrame f → ¬ RecordFault o (bytes_of o f ++ x) place cause
-frame_has_none o f x place RecordCut frame fault =
+pub frame_has_none : (o : Order) (f x : List ℕ) (at_offset : ℕ) (cause : BtfCause) → IsFrame f → ¬ RecordFault o (bytes_of o f ++ x) at_offset cause
+frame_has_none o f x at_offset RecordCut frame fault =
     omega (arith, three f frame, length-append (bytes_of o f) x, length-bytes_of o f, fault.1)
-frame_has_none o f x place TailCut frame fault =
+frame_has_none o f x at_offset TailCut frame fault =
     let info : fault.0 ≡ info_word f = fault.1.1 ∙ info_of_bytes o f x frame in
     let short : length (bytes_of o f ++ x) < 12 + 4 * tail_words (kind f) (vlen f) = rw (← info) fault.4 in
     omega (arith, frame.size, short, length-append (bytes_of o f) x, length-bytes_of o f)
-frame_has_none o f x place cause frame fault =
+frame_has_none o f x at_offset cause frame fault =
     let info : fault.0 ≡ info_word f = fault.1.1 ∙ info_of_bytes o f x frame in
     allowed_has_none (info_word f) cause frame.info (subst (λ (i : ℕ). InfoFault i cause) info fault.2)
 

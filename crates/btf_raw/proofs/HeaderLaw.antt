@@ -48,20 +48,20 @@ start_there b none =
 
 -- the first byte of a range that isn't 0, or none
 record FirstOther (b : List ℕ) (from end : ℕ) : Type 0 where
-  place : ℕ
-  at_least : from ≤ place
-  inside : place < end
-  other : slice_index b place ≢ 0
-  before : (q : ℕ) → from ≤ q → q < place → slice_index b q ≡ 0
+  at_offset : ℕ
+  at_least : from ≤ at_offset
+  inside : at_offset < end
+  other : slice_index b at_offset ≢ 0
+  before : (q : ℕ) → from ≤ q → q < at_offset → slice_index b q ≡ 0
 
 zeros_or_other : (b : List ℕ) (from n : ℕ) → ((q : ℕ) → from ≤ q → q < from + n → slice_index b q ≡ 0) ⊎ FirstOther b from (from + n)
 zeros_or_other b from zero = inl (λ q low high. absurd (omega arith))
 zeros_or_other b from (suc n) = elim (zeros_or_other b from n) [
   | inr found ↦
       let inside = found.inside in
-      inr (record { place = found.place; at_least = found.at_least; inside = omega arith; other = found.other; before = found.before })
+      inr (record { at_offset = found.at_offset; at_least = found.at_least; inside = omega arith; other = found.other; before = found.before })
   | inl zeros ↦ elim (cases_eq (slice_index b (from + n)) 0) [
-    | inr some ↦ inr (record { place = from + n; at_least = omega arith; inside = omega arith; other = some; before = zeros })
+    | inr some ↦ inr (record { at_offset = from + n; at_least = omega arith; inside = omega arith; other = some; before = zeros })
     | inl none ↦ inl (λ q low high. elim (cases_lt q (from + n)) [
       | inl before ↦ zeros q low before
       | inr past ↦ let last : q ≡ from + n = omega arith in ap (λ (k : ℕ). slice_index b k) last ∙ none
@@ -86,7 +86,7 @@ length_there b o none start =
         | inl zeros ↦ λ q from end. zeros q from (omega arith)
         | inr found ↦
             let end = found.inside in
-            absurd (none found.place HeaderTail (o, n, has, found.at_least, omega arith, omega arith, found.other, found.before))
+            absurd (none found.at_offset HeaderTail (o, n, has, found.at_least, omega arith, omega arith, found.other, found.before))
       ];
     }
 
@@ -233,8 +233,8 @@ one_order b Big Little e f = absurd (omega arith)
 one_order b Big Big e f = refl
 
 module _ (b : List ℕ) (h : Header) (right : SectionsAreRight b h) where
-  its_word : (o : Order) (place w : ℕ) → HasWord b o place w → w ≡ word32_at h.order b place
-  its_word o place w has = has.2 ∙ ap (λ (p : Order). word32_at p b place) (one_order b o h.order has.0.1 right.len.start.order)
+  its_word : (o : Order) (at_offset w : ℕ) → HasWord b o at_offset w → w ≡ word32_at h.order b at_offset
+  its_word o at_offset w has = has.2 ∙ ap (λ (p : Order). word32_at p b at_offset) (one_order b o h.order has.0.1 right.len.start.order)
 
   right_has_none : HasNone (HeaderFault b)
   right_has_none p ShortHeader fault = let there = right.len.start.there in omega (arith, fault.0)

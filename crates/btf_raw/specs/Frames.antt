@@ -75,11 +75,11 @@ RecordFault o rest p TailCut =
 RecordFault o rest p cause = (info : ℕ) × HasInfo o rest info × InfoFault info cause × (p ≡ 4)
 
 -- the first record that isn't a frame has this fault, at this offset of the section; the records before it are frames
-pub record FramingFault (o : Order) (types : List ℕ) (place : ℕ) (cause : BtfCause) : Type 0 where
+pub record FramingFault (o : Order) (types : List ℕ) (at_offset : ℕ) (cause : BtfCause) : Type 0 where
   pub frames : List (List ℕ)
   pub rest : List ℕ
   pub offset : ℕ
   pub each : All IsFrame frames
   pub whole : types ≡ section_of o frames ++ rest
   pub fault : RecordFault o rest offset cause
-  pub place_is : place ≡ length (section_of o frames) + offset
+  pub at_offset_is : at_offset ≡ length (section_of o frames) + offset

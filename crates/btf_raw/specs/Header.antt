@@ -40,7 +40,7 @@ HasOrder b o = (2 ≤ length b) × (word16_at o b 0 ≡ 0xeb9f)
 
 -- the header has a byte order, and its 32-bit word at this offset is w
 abbrev pub HasWord : List ℕ → Order → ℕ → ℕ → Type 0
-HasWord b o place w = HasOrder b o × (place + 4 ≤ length b) × (w ≡ word32_at o b place)
+HasWord b o offset w = HasOrder b o × (offset + 4 ≤ length b) × (w ≡ word32_at o b offset)
 
 -- what each cause from ShortHeader to FileLength says of a file, and at which offset (btf.rst section 2)
 abbrev pub HeaderFault : List ℕ → ℕ → BtfCause → Type 0

@@ -28,4 +28,4 @@ pub record HeadAt (o : Order) (types : List ℕ) (pos : ℕ) (head : RawHead) : 
 
 -- the record at this offset has this fault, at this offset of the section
 abbrev pub HeadFault : Order → List ℕ → ℕ → ℕ → BtfCause → Type 0
-HeadFault o types pos place cause = (offset : ℕ) × RecordFault o (drop pos types) offset cause × (place ≡ pos + offset)
+HeadFault o types pos at_offset cause = (offset : ℕ) × RecordFault o (drop pos types) offset cause × (at_offset ≡ pos + offset)

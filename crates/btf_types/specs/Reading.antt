@@ -97,8 +97,8 @@ abbrev pub frame_at : Order → List ℕ → ℕ → List ℕ
 frame_at o types pos = tabulate (λ j. word32_at o types (pos + 4 * j)) (3 + tail_words (kind_of (info_at o types pos)) (vlen_of (info_at o types pos)))
 
 abbrev pub frames_at : Order → List ℕ → List ℕ → List (List ℕ)
-frames_at o types places = map (frame_at o types) places
+frames_at o types offsets = map (frame_at o types) offsets
 
 -- the records at these offsets of a type section
 abbrev pub records_at : Order → List ℕ → List ℕ → List ℕ → List TypeRecord
-records_at o types strings places = map (record_of strings) (frames_at o types places)
+records_at o types strings offsets = map (record_of strings) (frames_at o types offsets)

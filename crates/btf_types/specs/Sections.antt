@@ -17,7 +17,7 @@ pub record SectionWords : Type 0 where
 
 -- those of a file whose records begin at these offsets of its type section
 abbrev pub words_at : Order → List ℕ → List ℕ → List ℕ → SectionWords
-words_at o types strings places = record { order = o; strings = strings; frames = frames_at o types places }
+words_at o types strings offsets = record { order = o; strings = strings; frames = frames_at o types offsets }
 
 -- the records that the frames decode to
 abbrev pub records_in : SectionWords → List TypeRecord

@@ -12,7 +12,7 @@ use Rattle.bpf_insn.proofs.FrontLemmas.{one_front}
 use Rattle.bpf_canon.specs.declared.engine.RunCause.{RunCause}
 use Rattle.bpf_canon.specs.declared.engine.RunCause.TheVariants as cause
 use Rattle.bpf_canon.specs.insn.{FeedState.FeedState, Passed.Passed, Passed.PassStops, FeedStream.IsSound, FeedStream.Moves, FeedStream.Represents}
-use Rattle.bpf_canon.specs.{device.Reads.read_room, Engine.Devices, Engine.devices}
+use Rattle.bpf_canon.specs.{device.Reads.read_capacity, Engine.Devices, Engine.devices}
 use Rattle.bpf_canon.specs.insn.Run.{RanWhole, StopsAtFault, StopsTooLong, StopsUnread, Stops, WroteAll, limit}
 use Rattle.bpf_canon.proofs.InsnLemmas.FeedLemmas.{keeps_answer, keeps_fault}
 use Rattle.bpf_canon.proofs.InsnLemmas.FrontLaws.{file_front, front_fits, front_grows}
@@ -118,13 +118,13 @@ run_more a b c p q r o to s t n k piece h came x fits =
 -- the bytes read with a chunk; a piece of it is within the limit, and the sink accepted the instructions that it completed
 wrote_chunk : (a b c p q r : Option (List ℕ)) (o to : Order) (s t : FeedState) (n k : ℕ) (chunk piece out : List ℕ) → (h : Running (devices a b p q) o to s n)
     → Consumes b c chunk → Adds o to t h.read piece h.insns out → Appends q r out → k ≡ length out → take limit (h.read ++ chunk) ≡ h.read ++ piece
-    → length chunk ≤ read_room → WroteAll (devices a c p r) o to (h.read ++ chunk) (n + k)
+    → length chunk ≤ read_capacity → WroteAll (devices a c p r) o to (h.read ++ chunk) (n + k)
 wrote_chunk a b c p q r o to s t n k chunk piece out h came adds took all cut small = grind (arith, common_steps)
 
 -- more than the limit came
 pub run_too_long : (a b c p q r : Option (List ℕ)) (o to : Order) (s t : FeedState) (n k : ℕ) (chunk piece : List ℕ) → (h : Running (devices a b p q) o to s n)
     → Consumes b c chunk → Passed s t piece q r k → take limit (h.read ++ chunk) ≡ h.read ++ piece → limit < s.fed + length chunk
-    → length chunk ≤ read_room → StopsTooLong (devices a c p r) o to (n + k)
+    → length chunk ≤ read_capacity → StopsTooLong (devices a c p r) o to (n + k)
 run_too_long a b c p q r o to s t n k chunk piece h came x cut beyond small =
     let adds = adds_of o to s t h.read piece h.insns h.rest x.out h.front h.represents x.moves in
     let Q : List ℕ → Type 0 = λ b. IsSound o b in
@@ -138,7 +138,7 @@ run_too_long a b c p q r o to s t n k chunk piece h came x cut beyond small =
 -- the piece stops the engine
 pub run_stops : (a b c p q r : Option (List ℕ)) (o to : Order) (s t : FeedState) (n k : ℕ) (chunk piece : List ℕ) (why : RunCause SlotFault) → (h : Running (devices a b p q) o to s n)
     → Consumes b c chunk → PassStops s t piece q r k why → take limit (h.read ++ chunk) ≡ h.read ++ piece
-    → length chunk ≤ read_room → Stops (devices a c p r) o to (n + k) why
+    → length chunk ≤ read_capacity → Stops (devices a c p r) o to (n + k) why
 run_stops a b c p q r o to s t n k chunk piece (cause.Fault f) h came x cut small =
     let adds = adds_of o to s t h.read piece h.insns h.rest x.out h.front h.represents x.moves in
     let has = keeps_fault t o to _ f adds.represents x.faulty in

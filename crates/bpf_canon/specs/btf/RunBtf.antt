@@ -8,7 +8,7 @@ use Rattle.btf_types.specs.declared.error.BtfError.{BtfError}
 use Rattle.btf_types.specs.declared.error.BtfError.TheVariants as errors
 use Rattle.bpf_canon.specs.declared.device.source.ReadError.{ReadError}
 use Rattle.bpf_canon.specs.declared.device.source.ReadError.TheVariants as unread
-use Rattle.bpf_canon.specs.{btf.CanonicalBtf.canonical, declared.engine.RunCause.RunCause, device.Reads.read_room, Engine.Devices}
+use Rattle.bpf_canon.specs.{btf.CanonicalBtf.canonical, declared.engine.RunCause.RunCause, device.Reads.read_capacity, Engine.Devices}
 use Rattle.bpf_canon.specs.declared.engine.RunCause.TheVariants as cause
 
 -- the largest number of bytes that the engine accepts: the largest header and sections of a file
@@ -47,7 +47,7 @@ pub record StopsBtfTooLong (d : Devices) (written : ℕ) : Type 0 where
   pub read : List ℕ
   pub came : Consumes d.source d.source_after read
   pub beyond : btf_limit < length read
-  pub near : length read ≤ btf_limit + read_room
+  pub near : length read ≤ btf_limit + read_capacity
   pub nothing : WroteNothing d written
 
 -- a read failed before more bytes than the limit were read
@@ -70,7 +70,7 @@ pub record StopsBtfUnwritten (d : Devices) (to : Order) (written : ℕ) : Type 0
 pub record StopsBtfRefused (d : Devices) (written : ℕ) : Type 0 where
   pub read : List ℕ
   pub came : Consumes d.source d.source_after read
-  pub near : length read ≤ btf_limit + read_room
+  pub near : length read ≤ btf_limit + read_capacity
   pub nothing : WroteNothing d written
 
 -- how the engine ended, for each cause: what was read, what the sink received, and why

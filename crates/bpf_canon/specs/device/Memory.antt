@@ -40,5 +40,5 @@ abbrev pub sink_pace : {A : Type 0} → MemSink A → Pace
 sink_pace s = record { piece = s.piece; good_calls = s.good_writes }
 
 -- the vector of a sink has capacity for n more bytes
-abbrev pub HasRoom : {A : Type 0} → MemSink A → ℕ → Type 0
-HasRoom s n = vec_len s.out.now + n ≤ vec_capacity s.out.now
+abbrev pub HasCapacity : {A : Type 0} → MemSink A → ℕ → Type 0
+HasCapacity s n = vec_len s.out.now + n ≤ vec_capacity s.out.now

@@ -3,8 +3,8 @@ use Rattle.std.specs.Prelude.{◌<◌, ◌≤◌, ◌+◌, ℕ, List, length}
 use Rattle.bpf_canon.specs.declared.device.source.ReadError.{ReadError, TheVariants.TooLong, TheVariants.ReadFailed, TheVariants.Memory}
 
 -- the size in bytes of the buffer of each read
-abbrev pub read_room : ℕ
-read_room = 4096
+abbrev pub read_capacity : ℕ
+read_capacity = 4096
 
 -- how many reads failed when that reading fails
 abbrev pub failed_reads : ReadError → ℕ
@@ -13,6 +13,6 @@ failed_reads _ = 0
 
 -- how much was read when reading an entire input fails; the last read may go past the limit
 abbrev pub EndsAmid : ℕ → List ℕ → ReadError → Type 0
-EndsAmid limit bytes TooLong = (limit < length bytes) × (length bytes ≤ limit + read_room)
+EndsAmid limit bytes TooLong = (limit < length bytes) × (length bytes ≤ limit + read_capacity)
 EndsAmid limit bytes ReadFailed = length bytes ≤ limit
-EndsAmid limit bytes Memory = length bytes ≤ limit + read_room
+EndsAmid limit bytes Memory = length bytes ≤ limit + read_capacity

@@ -4,7 +4,7 @@ use Rattle.std.specs.Io.KnownBytes.{Appends, Consumes, IsAtEnd}
 use Rattle.bpf_words.specs.declared.Order.{Order}
 use Rattle.bpf_insn.specs.declared.{insn.Insn.Insn, fault.SlotFault.SlotFault, fault.SlotCause.TheVariants.Truncated}
 use Rattle.bpf_insn.specs.{Encoding.file_of, Encoding.InsnFile, Faults.IsFront, Faults.IsInsnFault}
-use Rattle.bpf_canon.specs.{Engine.Devices, device.Reads.read_room, insn.FeedStream.IsSound, declared.engine.RunCause.RunCause}
+use Rattle.bpf_canon.specs.{Engine.Devices, device.Reads.read_capacity, insn.FeedStream.IsSound, declared.engine.RunCause.RunCause}
 use Rattle.bpf_canon.specs.declared.engine.RunCause.TheVariants as cause
 
 -- the largest number of bytes that an engine accepts
@@ -26,14 +26,14 @@ pub record RanWhole (d : Devices) (o to : Order) (written : ℕ) : Type 0 where
 -- that encode the instructions at the start of the input within the limit
 pub record Wrote (d : Devices) (o to : Order) (read : List ℕ) (written : ℕ) : Type 0 where
   pub came : Consumes d.source d.source_after read
-  pub near : length read ≤ limit + read_room
+  pub near : length read ≤ limit + read_capacity
   pub prefix : (insns : List Insn) (rest : List ℕ) → IsFront o (take limit read) insns rest
       → (written ≤ length (file_of to insns)) × Appends d.sink d.sink_after (take written (file_of to insns))
 
 -- likewise, and the sink accepted all these bytes
 pub record WroteAll (d : Devices) (o to : Order) (read : List ℕ) (written : ℕ) : Type 0 where
   pub came : Consumes d.source d.source_after read
-  pub near : length read ≤ limit + read_room
+  pub near : length read ≤ limit + read_capacity
   pub insns : List Insn
   pub rest : List ℕ
   pub front : IsFront o (take limit read) insns rest

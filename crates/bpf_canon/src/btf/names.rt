@@ -121,19 +121,19 @@ fn placed_hosts<A: Allocator>(
 ) -> Result<(Vec<u32, A>, u32), AllocError>
     requires own { kept (spec.borrowed_texts names.now) ≡ spec.borrowed_texts names.now }
     requires host_indices { spec.HaveHosts (spec.borrowed_texts names.now) host_indices.now }
-    requires room { length (table_of (hosts_of (spec.borrowed_texts names.now))) < 2 ^ 32 }
-    ensures { IfOk result (λ (places, len).
-        spec.ArePlacedHosts (spec.borrowed_texts names.now) host_indices.now places.items len) }
+    requires capacity { length (table_of (hosts_of (spec.borrowed_texts names.now))) < 2 ^ 32 }
+    ensures { IfOk result (λ (offsets, len).
+        spec.ArePlacedHosts (spec.borrowed_texts names.now) host_indices.now offsets.items len) }
 {
-    let mut places = vec![in alloc; 0; names.len()]?;
+    let mut text_offsets = vec![in alloc; 0; names.len()]?;
     let mut len = 1;
     for index in 0..names.len() {
         if host_indices[index] == index {
-            places[index] = len;
+            text_offsets[index] = len;
             len += names[index].len() as u32 + 1;
         }
     }
-    Ok((places, len))
+    Ok((text_offsets, len))
 }
 
 /// Distinct names that share suffixes.
@@ -143,7 +143,7 @@ pub(crate) struct SharedNames<'a, A: Allocator> {
     /// The index of each name's host.
     host_indices: Vec<usize, A>,
     /// The offset of each host in the string table.
-    places: Vec<u32, A>,
+    text_offsets: Vec<u32, A>,
     table_len: u32,
 }
 
@@ -156,29 +156,29 @@ impl<'a, A: Allocator> Model for SharedNames<'a, A> {
     ghost view = { λ n. borrowed_texts n.names.keys };
 
     ghost invariant = { λ n. AreShared (borrowed_texts n.names.keys)
-        n.host_indices.items n.places.items n.table_len };
+        n.host_indices.items n.text_offsets.items n.table_len };
 }
 
 impl<'a, A: Allocator + Copy> SharedNames<'a, A> {
     /// Computes the offsets of the names.
     pub(crate) fn new(alloc: A, names: NameSet<'a, A>) -> Result<Self, AllocError>
         requires own { kept (spec.borrowed_texts names.keys) ≡ spec.borrowed_texts names.keys }
-        requires room { length (table_of (hosts_of (spec.borrowed_texts names.keys))) < 2 ^ 32 }
+        requires capacity { length (table_of (hosts_of (spec.borrowed_texts names.keys))) < 2 ^ 32 }
         ensures { IfOk result (λ n. n ≡ spec.borrowed_texts names.entry.keys) }
     {
         let host_indices = found_hosts(alloc, names.as_slice())?;
-        let (places, table_len) = placed_hosts(alloc, names.as_slice(), &host_indices)?;
+        let (text_offsets, table_len) = placed_hosts(alloc, names.as_slice(), &host_indices)?;
         Ok(SharedNames {
             names,
             host_indices,
-            places,
+            text_offsets,
             table_len,
         })
     }
 
     /// The offset of a name in the string table, within its host. The empty name has offset 0.
     pub(crate) fn new_offset(&self, name: &str) -> u32
-        requires { spec.IsPlaced self.now name.now }
+        requires { spec.IsInTable self.now name.now }
         ensures { result ≡ shared_among self.now name.now }
     {
         if name.is_empty() {
@@ -186,7 +186,7 @@ impl<'a, A: Allocator + Copy> SharedNames<'a, A> {
         }
         let index = self.names.get_index_of(name).unwrap();
         let host = self.host_indices[index];
-        self.places[host] + (self.names.as_slice()[host].len() - name.len()) as u32
+        self.text_offsets[host] + (self.names.as_slice()[host].len() - name.len()) as u32
     }
 
     /// Appends the string table: NUL, then each host with its NUL.

@@ -116,8 +116,8 @@ impl<'a, A: Allocator> MemSink<'a, A> {
 }
 
 impl<A: Allocator> ByteSink for MemSink<'_, A> {
-    ghost use Rattle.bpf_canon.specs.device.Memory.{HasRoom, sink_bytes, sink_failures, sink_pace};
-    ghost use Rattle.bpf_canon.specs.device.Memory.{next_pace};
+    ghost use Rattle.bpf_canon.specs.device.Memory.{HasCapacity, next_pace};
+    ghost use Rattle.bpf_canon.specs.device.Memory.{sink_bytes, sink_failures, sink_pace};
 
     ghost contents = { λ s. Some (sink_bytes s) };
 
@@ -134,7 +134,8 @@ impl<A: Allocator> ByteSink for MemSink<'_, A> {
         // A write before number `fuse` fails only if the vector has to grow and can't.
         ensures fails { (sink_pace self.old).good_calls ≡ Some 0 → IsErr result }
         ensures succeeds { (sink_pace self.old).good_calls ≢ Some 0
-            → HasRoom self.old (min (sink_pace self.old).piece (length bytes.now)) → IsOk result }
+            → HasCapacity self.old (min (sink_pace self.old).piece (length bytes.now))
+            → IsOk result }
         ensures amount { IfOk result (λ n. n ≡ min (sink_pace self.old).piece (length bytes.now)) }
         ensures pace { sink_pace self.new ≡ next_pace (sink_pace self.old) }
     {

@@ -176,7 +176,7 @@ impl InsnFeed {
     fn advance<A: Allocator>(&mut self, piece: &[u8], out: &mut Vec<u8, A>)
         requires fits { self.old.fed + length piece.now ≤ u64.MAX }
         requires sound { self.old.fault ≡ None }
-        requires room { vec_len out.old + length self.old.held + length piece.now
+        requires capacity { vec_len out.old + length self.old.held + length piece.now
             ≤ vec_capacity out.old }
         ensures { Advances self.old self.new piece.now out.old.items out.new.items }
     {

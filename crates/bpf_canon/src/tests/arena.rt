@@ -9,19 +9,19 @@ use std::alloc::Global;
 use std::process::Abort;
 
 /// How many bytes an arena has at least, before any are given away.
-const ROOM: usize = 16_384;
+const CAPACITY: usize = 16_384;
 
 /// A test ends after this number of calls with enough memory, and one more with all of the arena.
 const ENOUGH: usize = 16;
 
-/// An arena with `room` free bytes: the others are allocated first. It gets no other chunk.
-fn arena(rt: &impl Abort, alloc: Global, room: usize) -> Bump<Global> {
-    let bump = Bump::try_with_capacity(alloc, ROOM).expect(rt, "ample memory");
-    let taken = bump.chunk_capacity().saturating_sub(room);
+/// An arena with `capacity` free bytes: the others are allocated first. It gets no other chunk.
+fn arena(rt: &impl Abort, alloc: Global, capacity: usize) -> Bump<Global> {
+    let bump = Bump::try_with_capacity(alloc, CAPACITY).expect(rt, "ample memory");
+    let taken = bump.chunk_capacity().saturating_sub(capacity);
     bump.try_alloc_slice_fill_clone(taken, 0u8)
         .expect(rt, "ample memory");
     bump.set_allocation_limit(Some(bump.allocated_bytes()));
-    holds(rt, bump.chunk_capacity() == room, &room);
+    holds(rt, bump.chunk_capacity() == capacity, &capacity);
     bump
 }
 
@@ -68,14 +68,14 @@ pub(crate) trait ArenaCall {
 /// What a call returned with ever more memory.
 #[derive(Clone, Copy, Debug)]
 pub(crate) struct Tally {
-    /// How many rooms were too small, from 0 bytes on.
+    /// How many capacities were too small, from 0 bytes on.
     pub(crate) refused: usize,
     /// The number of points of the call at which growths failed, and the last of them.
     pub(crate) points: usize,
     pub(crate) last_point: Option<usize>,
-    /// How many rooms were enough.
+    /// How many capacities were enough.
     pub(crate) done: usize,
-    /// The first room in which the call returned something else, came less far than in a smaller one, or ran out of memory although a
+    /// The first capacity in which the call returned something else, came less far than in a smaller one, or ran out of memory although a
     /// smaller one was enough.
     pub(crate) wrong: Option<usize>,
 }
@@ -90,9 +90,9 @@ impl Tally {
             done: 0,
             wrong: None,
         };
-        for more in 0..=ROOM {
-            let room = if tally.done == ENOUGH { ROOM } else { more };
-            tally.count(room, call.outcome(alloc, &arena(rt, alloc, room)));
+        for more in 0..=CAPACITY {
+            let capacity = if tally.done == ENOUGH { CAPACITY } else { more };
+            tally.count(capacity, call.outcome(alloc, &arena(rt, alloc, capacity)));
             if tally.done > ENOUGH || tally.wrong.is_some() {
                 break;
             }
@@ -100,14 +100,14 @@ impl Tally {
         tally
     }
 
-    /// Counts what the call returned in a room. With more memory it gets at least as far.
-    fn count(&mut self, room: usize, outcome: Outcome) {
+    /// Counts what the call returned with a capacity. With more memory it gets at least as far.
+    fn count(&mut self, capacity: usize, outcome: Outcome) {
         match outcome {
             Outcome::Whole => self.done = self.done.saturating_add(1),
             Outcome::Refused(point) if self.done == 0 && self.last_point <= Some(point) => {
                 self.refuse(point);
             }
-            _ => self.wrong = Some(room),
+            _ => self.wrong = Some(capacity),
         }
     }
 
@@ -120,7 +120,7 @@ impl Tally {
         }
     }
 
-    /// Whether no answer was wrong, and at least this many rooms were too small, at this many points or more.
+    /// Whether no answer was wrong, and at least this many capacities were too small, at this many points or more.
     pub(crate) fn is_right(&self, refused: usize, points: usize) -> bool {
         let is_whole = self.done > ENOUGH && self.wrong.is_none();
         is_whole && refused <= self.refused && points <= self.points

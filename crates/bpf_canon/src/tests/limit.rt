@@ -23,8 +23,8 @@ impl ByteSource for Exits {
     ghost failures = { λ _. 0 };
 
     fn read(&mut self, buffer: &mut [u8]) -> Result<usize, DeviceFailed> {
-        let room = (buffer.len() / 8) as u64;
-        let slots = room.min(self.left);
+        let capacity = (buffer.len() / 8) as u64;
+        let slots = capacity.min(self.left);
         if slots > 0 {
             self.left = self.left.saturating_sub(slots);
             for (pos, byte) in buffer.iter_mut().enumerate() {

@@ -66,12 +66,12 @@ fn plain_file(
     let second = text_at(strings, second as usize);
     let third = text_at(strings, third as usize);
     let table = PlainTable::of(rt, alloc, &[first, second, third]);
-    let places = [
+    let offsets = [
         table.new_offset(first),
         table.new_offset(second),
         table.new_offset(third),
     ];
-    file(rt, alloc, order, &words(places), &table.bytes(rt, alloc))
+    file(rt, alloc, order, &words(offsets), &table.bytes(rt, alloc))
 }
 
 /// All string sections of NUL, `a` and `b` with `len` bytes between their first and last NUL, by a number below 3 to the power of `len`.

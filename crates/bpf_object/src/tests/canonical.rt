@@ -83,12 +83,12 @@ fn only_what_an_object_holds_changes_its_canonical_file(rt: HostRuntime) -> Resu
 }
 
 /// How many bytes an arena has at least, before any are given away. It suffices for each call.
-const ROOM: usize = 65_536;
+const CAPACITY: usize = 65_536;
 
-/// An arena of one chunk with `room` free bytes: the others are allocated first.
-fn arena(rt: &impl Abort, alloc: Global, room: usize) -> Bump<Global> {
-    let bump = Bump::try_with_capacity(alloc, ROOM).expect(rt, "ample memory");
-    let taken = bump.chunk_capacity().saturating_sub(room);
+/// An arena of one chunk with `capacity` free bytes: the others are allocated first.
+fn arena(rt: &impl Abort, alloc: Global, capacity: usize) -> Bump<Global> {
+    let bump = Bump::try_with_capacity(alloc, CAPACITY).expect(rt, "ample memory");
+    let taken = bump.chunk_capacity().saturating_sub(capacity);
     bump.try_alloc_slice_fill_clone(taken, 0u8)
         .expect(rt, "ample memory");
     bump.set_allocation_limit(Some(bump.allocated_bytes()));
@@ -132,11 +132,11 @@ fn refused(for_memory: bool) -> Option<bool> {
     if for_memory { None } else { Some(false) }
 }
 
-/// The least room in which a call doesn't run out of memory, and whether its answer is right there.
+/// The least capacity in which a call doesn't run out of memory, and whether its answer is right there.
 fn first_answer(rt: &impl Abort, alloc: Global, call: Call) -> Option<(usize, bool)> {
-    for room in 0..ROOM {
-        if let Some(right) = call.is_right(&arena(rt, alloc, room)) {
-            return Some((room, right));
+    for capacity in 0..CAPACITY {
+        if let Some(right) = call.is_right(&arena(rt, alloc, capacity)) {
+            return Some((capacity, right));
         }
     }
     None
@@ -146,7 +146,7 @@ fn first_answer(rt: &impl Abort, alloc: Global, call: Call) -> Option<(usize, bo
 fn each_call_reports_that_memory_is_refused(rt: HostRuntime) {
     for call in [Call::Canon, Call::Same, Call::Key, Call::Read] {
         let answer = first_answer(&rt, rt.alloc(), call);
-        let is_right = matches!(answer, Some((room, true)) if room > CANONICAL.len());
+        let is_right = matches!(answer, Some((capacity, true)) if capacity > CANONICAL.len());
         assert!(rt; is_right, "{call:?}: {answer:?}");
     }
 }

@@ -17,14 +17,14 @@ pub record ReadSoFar (text rest : List ℕ) (insns : List Insn) (n : ℕ) : Type
   pub lines : lines_of text ≡ front ++ lines_of rest
   pub each : AllZip ListsLine front listed
   pub whole : insns ≡ flat_map (λ found. found) listed
-  pub place : n ≡ length front + 1
+  pub line_number : n ≡ length front + 1
 
 -- an input whose first newline is at this index
 pub ends_at : (text : List ℕ) (end : ℕ) → NoneBefore (Passes (is_byte 10) text) 0 (length text) end × Passes (is_byte 10) text end → lines_of text ≡ take end text ∷ lines_of (drop (end + 1) text)
 ends_at text end h =
-    let place : end ≡ position_or_len is_newline text = run_found (λ b. not (is_newline b)) text end h.0.high (λ k l. not_from_false (is_newline (get_or text k 0)) (false_from_ne_true (is_newline (get_or text k 0)) (h.0.before k (omega arith) l))) (ap not h.1) in
-    let after : drop (end + 1) text ≡ after_first is_newline text = ap (λ n. drop (n + 1) text) place in
-    rw (after, place) (slice_split_first is_newline text 0 (omega (arith, h.0.high, place)))
+    let line_number : end ≡ position_or_len is_newline text = run_found (λ b. not (is_newline b)) text end h.0.high (λ k l. not_from_false (is_newline (get_or text k 0)) (false_from_ne_true (is_newline (get_or text k 0)) (h.0.before k (omega arith) l))) (ap not h.1) in
+    let after : drop (end + 1) text ≡ after_first is_newline text = ap (λ n. drop (n + 1) text) line_number in
+    rw (after, line_number) (slice_split_first is_newline text 0 (omega (arith, h.0.high, line_number)))
 
 -- an input without a newline is one line
 pub ends_nowhere : (text : List ℕ) → Nowhere (Passes (is_byte 10) text) 0 (length text) → lines_of text ≡ text ∷ []
@@ -39,7 +39,7 @@ joined : (listed : List (List Insn)) (found : List Insn) → flat_map (λ f. f) 
 joined listed found = flat_map-append (λ f. f) listed (found ∷ []) ∙ ap (λ x. flat_map (λ f. f) listed ++ x) (append-nil found)
 
 pub starts : (text : List ℕ) (insns : List Insn) → insns ≡ [] → ReadSoFar text text insns 1
-starts text insns e = record { front = []; listed = []; lines = refl; each = tt; whole = e; place = refl }
+starts text insns e = record { front = []; listed = []; lines = refl; each = tt; whole = e; line_number = refl }
 
 pub one_more : (text rest line next : List ℕ) (insns more found : List Insn) (n : ℕ) → ReadSoFar text rest insns n → lines_of rest ≡ line ∷ lines_of next → ListsLine line found → more ≡ insns ++ found
     → ReadSoFar text next more (n + 1)
@@ -50,7 +50,7 @@ one_more text rest line next insns more found n s e h f =
       lines = s.lines ∙ ap (λ x. s.front ++ x) e ∙ sym (append_assoc s.front (line ∷ []) (lines_of next));
       each = zip_push ListsLine s.front s.listed line found s.each h;
       whole = f ∙ ap (λ x. x ++ found) s.whole ∙ sym (joined s.listed found);
-      place = omega (arith, s.place, length-append s.front (line ∷ []));
+      line_number = omega (arith, s.line_number, length-append s.front (line ∷ []));
     }
 
 pub at_the_end : (text rest line : List ℕ) (insns more found : List Insn) (n : ℕ) → ReadSoFar text rest insns n → lines_of rest ≡ line ∷ [] → ListsLine line found → more ≡ insns ++ found → Lists text more
@@ -71,7 +71,7 @@ at_a_fault P text rest line following insns n (Fault fault) (Err reported) s m r
   back = (line_first rest line following m).0;
   lines = s.lines ∙ ap (λ x. s.front ++ x) (line_first rest line following m).1;
   before = (s.listed, s.each);
-  place = refuses.0 ∙ s.place;
+  line_number = refuses.0 ∙ s.line_number;
   cause = refuses.1;
 })
 at_a_fault P text rest line following insns n Memory (Err reported) s m refuses same = absurd refuses

@@ -76,6 +76,6 @@ fault_at n c = record { line = n; cause = c }
 pub one_fault : (text : List ℕ) (f g : LineFault) → IsListFault text f → IsListFault text g → f ≡ g
 one_fault text f g h k =
     let place = one_place h.front k.front h.back k.back h.line k.line h.before.0 k.before.0 (sym h.lines ∙ k.lines) h.before.1 k.before.1 (λ found. excludes h.line f.cause found h.cause) (λ found. excludes k.line g.cause found k.cause) in
-    let number : f.line ≡ g.line = h.place ∙ ap (λ n. n + 1) place.0 ∙ sym k.place in
+    let number : f.line ≡ g.line = h.line_number ∙ ap (λ n. n + 1) place.0 ∙ sym k.line_number in
     let cause : f.cause ≡ g.cause = one_cause h.line f.cause g.cause h.cause (subst (λ (x : List ℕ). IsCause x g.cause) (sym place.1) k.cause) in
     ap (λ n. fault_at n f.cause) number ∙ ap (fault_at g.line) cause

@@ -13,9 +13,9 @@ abbrev pub bytes_of : Bor (List ℕ) → List ℕ
 bytes_of t = t.now
 
 -- an index by a test of the element, and by that of its bytes
-place_is : (xs : List (Bor (List ℕ))) → position_or_len (λ t. is_comma t.now) xs ≡ position_or_len is_comma (map bytes_of xs)
-place_is [] = refl
-place_is (x ∷ xs) = rw (place_is xs) refl
+at_offset_is : (xs : List (Bor (List ℕ))) → position_or_len (λ t. is_comma t.now) xs ≡ position_or_len is_comma (map bytes_of xs)
+at_offset_is [] = refl
+at_offset_is (x ∷ xs) = rw (at_offset_is xs) refl
 
 -- the parts before the rest spell the operands that were read
 pub record ReadSoFar (ts rest : List (List ℕ)) (read : List ReadOperand) : Type 0 where
@@ -52,14 +52,14 @@ part_whole xs start l below =
 -- the part from an index to the next comma, and the tokens after the comma
 module _ (xs : List (Bor (List ℕ))) (start end : ℕ) (v : end ≡ start + position_or_len {X = Bor (List ℕ)} (λ t. is_comma t.now) (drop start xs)) where
   len_is : end - start ≡ position_or_len is_comma (map bytes_of (drop start xs))
-  len_is = omega (arith, v, place_is (drop start xs))
+  len_is = omega (arith, v, at_offset_is (drop start xs))
 
   part_is : (part : List (Bor (List ℕ))) → part ≡ take (end - start) (drop start xs) → map bytes_of part ≡ before_first is_comma (map bytes_of (drop start xs))
   part_is part e = ap (map bytes_of) e ∙ sym (take-map bytes_of (end - start) (drop start xs)) ∙ ap (λ k. take k (map bytes_of (drop start xs))) len_is
 
   rest_is : map bytes_of (drop (end + 1) xs) ≡ after_first is_comma (map bytes_of (drop start xs))
   rest_is =
-      let j : end + 1 ≡ start + (position_or_len is_comma (map bytes_of (drop start xs)) + 1) = omega (arith, v, place_is (drop start xs)) in
+      let j : end + 1 ≡ start + (position_or_len is_comma (map bytes_of (drop start xs)) + 1) = omega (arith, v, at_offset_is (drop start xs)) in
       ap (λ k. map bytes_of (drop k xs)) j
       ∙ ap (map bytes_of) (sym (drop-drop (position_or_len is_comma (map bytes_of (drop start xs)) + 1) start xs))
       ∙ sym (drop-map bytes_of (position_or_len is_comma (map bytes_of (drop start xs)) + 1) (drop start xs))

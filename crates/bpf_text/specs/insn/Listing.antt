@@ -66,5 +66,5 @@ pub record IsListFault (text : List ℕ) (fault : LineFault) : Type 0 where
   pub back : List (List ℕ)
   pub lines : lines_of text ≡ front ++ line ∷ back
   pub before : (listed : List (List Insn)) × AllZip ListsLine front listed
-  pub place : fault.line ≡ length front + 1
+  pub line_number : fault.line ≡ length front + 1
   pub cause : IsCause line fault.cause

@@ -39,14 +39,14 @@ const JUMP_BYTES: &[u8; 72] = b"\
     \x05\0\x07\0\0\0\0\0\x05\0\x08\0\0\0\0\0\x05\0\x09\0\0\0\0\0";
 
 /// The size of an arena in bytes.
-const ROOM: usize = 1984;
+const CAPACITY: usize = 1984;
 
-/// An arena with `room` free bytes, which can't grow.
-fn arena(alloc: Global, room: usize) -> Result<Bump<Global>, AllocError> {
-    let taken = [0u8; ROOM];
-    let bump = Bump::try_with_capacity(alloc, ROOM)?;
+/// An arena with `capacity` free bytes, which can't grow.
+fn arena(alloc: Global, capacity: usize) -> Result<Bump<Global>, AllocError> {
+    let taken = [0u8; CAPACITY];
+    let bump = Bump::try_with_capacity(alloc, CAPACITY)?;
     bump.set_allocation_limit(Some(0));
-    bump.try_alloc_slice_copy(&taken[..ROOM.saturating_sub(room)])?;
+    bump.try_alloc_slice_copy(&taken[..CAPACITY.saturating_sub(capacity)])?;
     Ok(bump)
 }
 
@@ -85,13 +85,13 @@ enum Call {
 /// any, or that of the first wrong result. It is wrong to run out of memory in a larger one.
 fn after(
     before: Result<Option<usize>, usize>,
-    room: usize,
+    capacity: usize,
     outcome: Outcome,
 ) -> Result<Option<usize>, usize> {
     match (before, outcome) {
         (Err(_), _) | (Ok(None), Outcome::Refused) | (Ok(Some(_)), Outcome::Whole) => before,
-        (Ok(None), Outcome::Whole) => Ok(Some(room)),
-        _ => Err(room),
+        (Ok(None), Outcome::Whole) => Ok(Some(capacity)),
+        _ => Err(capacity),
     }
 }
 
@@ -205,7 +205,7 @@ fn appended(bump: &Bump<Global>, call: Call) -> Outcome {
     kept(&text, call, is_done)
 }
 
-fn outcome_of(bump: &Bump<Global>, row: &RoomRow, table: &BtfView<'_>) -> Outcome {
+fn outcome_of(bump: &Bump<Global>, row: &CapacityRow, table: &BtfView<'_>) -> Outcome {
     let lines = row.lines;
     let insns = &JUMPS[..lines.min(9)];
     match row.call {
@@ -221,22 +221,22 @@ fn outcome_of(bump: &Bump<Global>, row: &RoomRow, table: &BtfView<'_>) -> Outcom
 }
 
 /// The smallest arena that a call needs, or that of its first wrong result.
-fn least_room(
+fn least_capacity(
     alloc: Global,
-    row: &RoomRow,
+    row: &CapacityRow,
     table: &BtfView<'_>,
 ) -> Result<Result<Option<usize>, usize>, AllocError> {
     let mut least = Ok(None);
-    for room in 0..=ROOM {
-        let bump = arena(alloc, room)?;
-        least = after(least, room, outcome_of(&bump, row, table));
+    for capacity in 0..=CAPACITY {
+        let bump = arena(alloc, capacity)?;
+        least = after(least, capacity, outcome_of(&bump, row, table));
     }
     Ok(least)
 }
 
 /// A call, the number of lines if it is on these, what it needs at least, and whether that is more than in the row before. The
 /// rows of a call begin with none of the lines.
-struct RoomRow {
+struct CapacityRow {
     call: Call,
     lines: usize,
     bytes: usize,
@@ -245,11 +245,11 @@ struct RoomRow {
 
 macro_rules! row {
     ($call:ident of $lines:literal => $bytes:literal, $grows:literal) => {
-        RoomRow { call: Call::$call, lines: $lines, bytes: $bytes, grows: $grows }
+        CapacityRow { call: Call::$call, lines: $lines, bytes: $bytes, grows: $grows }
     };
 }
 
-static ROOMS: [RoomRow; 22] = [
+static CAPACITIES: [CapacityRow; 22] = [
     row!(Listing of 0 => 0, false),
     row!(Listing of 1 => 6, true),
     row!(Listing of 9 => 54, true),
@@ -279,13 +279,15 @@ fn check(
     rt: &impl Abort,
     alloc: Global,
     table: &BtfView<'_>,
-    row: &RoomRow,
+    row: &CapacityRow,
     before: usize,
 ) -> Result<usize, AllocError> {
     let before = if row.lines == 0 { 0 } else { before };
-    let least = least_room(alloc, row, table)?;
+    let least = least_capacity(alloc, row, table)?;
     let right = match least {
-        Ok(Some(room)) => row.bytes <= room && before <= room && row.grows == (before < room),
+        Ok(Some(capacity)) => row.bytes <= capacity
+            && before <= capacity
+            && row.grows == (before < capacity),
         _ => false,
     };
     let case = (row.call as usize, row.lines, least, before);
@@ -298,7 +300,7 @@ fn each_refused_allocation_is_reported(rt: HostRuntime) -> Result<(), Fail> {
     let bytes = file(rt.alloc(), Order::Little, &TYPES)?;
     let table = BtfView::parse(rt.alloc(), &bytes)?;
     let mut before = 0;
-    for row in &ROOMS {
+    for row in &CAPACITIES {
         before = check(&rt, rt.alloc(), &table, row, before)?;
     }
     Ok(())

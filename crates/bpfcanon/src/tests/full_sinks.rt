@@ -10,17 +10,17 @@ use std::process::Abort;
 use std::test::Fail;
 
 /// The most free bytes of a sink: more than any message and any output of a sample needs.
-const MOST_ROOM: usize = 512;
+const MOST_CAPACITY: usize = 512;
 
 /// Runs a command line whose sinks have this many free bytes. They accept one byte at a time, so their vectors grow more than once.
 fn run_into(
     alloc: Global,
     line: &str,
     input: &[u8],
-    (room, fault_room): (usize, usize),
+    (capacity, fault_capacity): (usize, usize),
 ) -> Result<Ran, AllocError> {
-    let bump = arena(alloc, MOST_ROOM, room)?;
-    let fault_bump = arena(alloc, MOST_ROOM, fault_room)?;
+    let bump = arena(alloc, MOST_CAPACITY, capacity)?;
+    let fault_bump = arena(alloc, MOST_CAPACITY, fault_capacity)?;
     let mut output = Vec::new(&bump);
     let mut faults = Vec::new(&fault_bump);
     let pace = Pace {
@@ -47,11 +47,11 @@ fn is_right(ran: &Ran, sample: &Sample) -> bool {
 /// A sink without enough memory has received a prefix of the output, and with more memory no less of it.
 fn check_sink(rt: &impl Abort, alloc: Global, sample: &Sample) -> Result<(), AllocError> {
     let mut before = 0;
-    for room in 0..=MOST_ROOM {
-        let ran = run_into(alloc, sample.line, sample.input, (room, MOST_ROOM))?;
+    for capacity in 0..=MOST_CAPACITY {
+        let ran = run_into(alloc, sample.line, sample.input, (capacity, MOST_CAPACITY))?;
         let taken = ran.output.len();
-        let is_right = is_right(&ran, sample) && before <= taken && taken <= room;
-        holds(rt, is_right, (sample.line, room));
+        let is_right = is_right(&ran, sample) && before <= taken && taken <= capacity;
+        holds(rt, is_right, (sample.line, capacity));
         before = taken;
     }
     holds(rt, before == sample.output.len(), (sample.line, before));
@@ -87,14 +87,14 @@ static REPORTS: [Row; 4] = [
 fn check_fault_sink(rt: &impl Abort, alloc: Global, row: &Row) -> Result<(), AllocError> {
     let fault = row.fault.as_bytes();
     let mut before = 0;
-    for room in 0..=MOST_ROOM {
-        let ran = run_into(alloc, row.line, row.input, (MOST_ROOM, room))?;
+    for capacity in 0..=MOST_CAPACITY {
+        let ran = run_into(alloc, row.line, row.input, (MOST_CAPACITY, capacity))?;
         let taken = ran.faults.len().min(fault.len());
         let is_right = is_answer(&ran, row.status, row.output, &fault[..taken]);
         holds(
             rt,
-            is_right && before <= taken && taken <= room,
-            (row.name, room),
+            is_right && before <= taken && taken <= capacity,
+            (row.name, capacity),
         );
         before = taken;
     }

@@ -46,7 +46,7 @@ cut_is_checked b fits = record {
           offset = p;
           cut = cut;
           fault = fault;
-          place_is = refl;
+          at_offset_is = refl;
         }));
       };
   back = λ can. (cut_has_none b can.order can.types can.strings can.cut, strings_have_none b can.order can.types can.strings can.cut can.nul_ends);
@@ -61,16 +61,16 @@ types_are_bytes b o types strings fits cut =
 
 module _ (b : List ℕ) (o : Order) (types strings : List ℕ) (cut : Cut b o types strings) (ends : HasNulEnds strings) where
   framing_there : IsBytes b → HasNone (FramesFault b) → (frames : List (List ℕ)) × Frames o types frames
-  framing_there fits none = frames_there o types (types_are_bytes b o types strings fits cut) (λ place cause fault. none (types_at o b + place) cause (record {
+  framing_there fits none = frames_there o types (types_are_bytes b o types strings fits cut) (λ at_offset cause fault. none (types_at o b + at_offset) cause (record {
     header = cut_has_none b o types strings cut;
     ends = strings_have_none b o types strings cut ends;
     order = o;
     types = types;
     strings = strings;
-    offset = place;
+    offset = at_offset;
     cut = cut;
     fault = fault;
-    place_is = refl;
+    at_offset_is = refl;
   }))
 
   -- ---- the fields
@@ -89,7 +89,7 @@ module _ (b : List ℕ) (o : Order) (types strings : List ℕ) (cut : Cut b o ty
       cut = cut;
       framed = framed;
       fault = fault;
-      place_is = refl;
+      at_offset_is = refl;
     })
 
     fields_there : HasNone (FieldsFault b) → (v : List TypeRecord) × AllZip (Encodes strings) v frames × IsValid v
@@ -121,7 +121,7 @@ fields_are_checked b o types strings frames fits cut ends framed = record {
 
 -- ---- the complete file
 
-denoted : (b : List ℕ) → IsBytes b → ((phase : Phase) (place : ℕ) (cause : BtfCause) → ¬ Faults b phase place cause) → (v : List TypeRecord) × Denotes b v
+denoted : (b : List ℕ) → IsBytes b → ((phase : Phase) (at_offset : ℕ) (cause : BtfCause) → ¬ Faults b phase at_offset cause) → (v : List TypeRecord) × Denotes b v
 denoted b fits none =
     let can = (cut_is_checked b fits).there (none InHeader, none InStrings) in
     let o = can.order in
@@ -130,7 +130,7 @@ denoted b fits none =
     let right = fields_there b o can.types can.strings can.cut can.nul_ends frames framed.1 (none InFields) in
     (right.0, frames_denote b o can.types can.strings right.0 frames can.cut can.nul_ends framed.1 right.1 right.2)
 
-faultless : (b : List ℕ) (v : List TypeRecord) → Denotes b v → (phase : Phase) (place : ℕ) (cause : BtfCause) → ¬ Faults b phase place cause
+faultless : (b : List ℕ) (v : List TypeRecord) → Denotes b v → (phase : Phase) (at_offset : ℕ) (cause : BtfCause) → ¬ Faults b phase at_offset cause
 faultless b v d =
     let found = frames_of d.order d.strings (facts v) v d.encodings d.valid.each d.encoded in
     let framed : Frames d.order d.types found.frames = record { each = found.each; whole = d.whole ∙ found.bytes } in
@@ -138,7 +138,7 @@ faultless b v d =
     (framing_has_none b d.order d.types d.strings found.frames d.cut framed)
     (fields_back b d.order d.types d.strings d.cut d.nul_ends found.frames framed v found.encoded d.valid)
   where
-    by_phase : HasNone (HeaderFault b) → HasNone (StringsFault b) → HasNone (FramesFault b) → HasNone (FieldsFault b) → (phase : Phase) (place : ℕ) (cause : BtfCause) → ¬ Faults b phase place cause
+    by_phase : HasNone (HeaderFault b) → HasNone (StringsFault b) → HasNone (FramesFault b) → HasNone (FieldsFault b) → (phase : Phase) (at_offset : ℕ) (cause : BtfCause) → ¬ Faults b phase at_offset cause
     by_phase header strings frames fields InHeader = header
     by_phase header strings frames fields InStrings = strings
     by_phase header strings frames fields InFrames = frames

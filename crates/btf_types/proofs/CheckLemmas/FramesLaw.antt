@@ -53,17 +53,17 @@ record FirstFrame (o : Order) (rest : List ℕ) : Type 0 where
   fits : IsBytes after
 
 record FirstFault (o : Order) (rest : List ℕ) : Type 0 where
-  place : ℕ
+  at_offset : ℕ
   cause : BtfCause
-  fault : RecordFault o rest place cause
+  fault : RecordFault o rest at_offset cause
 
 first_frame : (o : Order) (rest : List ℕ) → IsBytes rest → 0 < length rest → FirstFrame o rest ⊎ FirstFault o rest
 first_frame o rest fits some = elim (cases_lt (length rest) 12) [
-  | inl short ↦ inr (record { place = 0; cause = RecordCut; fault = (some, short, refl) })
+  | inl short ↦ inr (record { at_offset = 0; cause = RecordCut; fault = (some, short, refl) })
   | inr long ↦ elim (info_checked (word32_at o rest 4)) [
-    | inr against ↦ inr (record { place = 4; cause = against.cause; fault = info_to_record o rest against.cause (omega arith) against.fault })
+    | inr against ↦ inr (record { at_offset = 4; cause = against.cause; fault = info_to_record o rest against.cause (omega arith) against.fault })
     | inl allowed ↦ elim (cases_lt (length rest) (12 + 4 * tail_words (kind_of (word32_at o rest 4)) (vlen_of (word32_at o rest 4)))) [
-      | inl short ↦ inr (record { place = 12; cause = TailCut; fault = (word32_at o rest 4, (omega arith, refl), allowed.kind, long, short, refl) })
+      | inl short ↦ inr (record { at_offset = 12; cause = TailCut; fault = (word32_at o rest 4, (omega arith, refl), allowed.kind, long, short, refl) })
       | inr whole ↦
           let n = 4 * words_at o rest 0 in
           let end : n ≤ length rest = omega arith in
@@ -115,16 +115,16 @@ walk o (suc fuel) (c ∷ rest) fits h = elim (first_frame o (c ∷ rest) fits (o
 ]
 
 -- a section without a fault of framing is a list of frames
-pub frames_there : (o : Order) (types : List ℕ) → IsBytes types → ((place : ℕ) (cause : BtfCause) → ¬ FramingFault o types place cause) → (frames : List (List ℕ)) × Frames o types frames
+pub frames_there : (o : Order) (types : List ℕ) → IsBytes types → ((at_offset : ℕ) (cause : BtfCause) → ¬ FramingFault o types at_offset cause) → (frames : List (List ℕ)) × Frames o types frames
 frames_there o types fits none = elim (walk o (length types) types fits (omega arith)) [
   | inl all ↦ (all.frames, record { each = all.each; whole = all.whole })
-  | inr broken ↦ absurd (none (length (section_of o broken.frames) + broken.first.place) broken.first.cause (record {
+  | inr broken ↦ absurd (none (length (section_of o broken.frames) + broken.first.at_offset) broken.first.cause (record {
     frames = broken.frames;
     rest = broken.rest;
-    offset = broken.first.place;
+    offset = broken.first.at_offset;
     each = broken.each;
     whole = broken.whole;
     fault = broken.first.fault;
-    place_is = refl;
+    at_offset_is = refl;
   }))
 ]

@@ -14,12 +14,12 @@ use Rattle.btf_raw.proofs.Frames.{IsNoFrame, frame_has_none, frames_cancel}
 use Rattle.btf_types.proofs.Lists.{length-tabulate, get_or-tabulate}
 
 -- The offsets are those of the frames of the section up to an offset, in order.
-pub record IsFramedTo (o : Order) (types places : List ℕ) (pos : ℕ) : Type 0 where
-  pub each : All IsFrame (frames_at o types places)
-  pub whole : section_of o (frames_at o types places) ≡ take pos types
+pub record IsFramedTo (o : Order) (types offsets : List ℕ) (pos : ℕ) : Type 0 where
+  pub each : All IsFrame (frames_at o types offsets)
+  pub whole : section_of o (frames_at o types offsets) ≡ take pos types
   pub inside : pos ≤ length types
-  pub count : length places ≤ pos
-  pub starts : (i : ℕ) → i < length places → slice_index places i ≡ length (section_of o (take i (frames_at o types places)))
+  pub count : length offsets ≤ pos
+  pub starts : (i : ℕ) → i < length offsets → slice_index offsets i ≡ length (section_of o (take i (frames_at o types offsets)))
 
 -- the words that are read from an offset on have those bytes
 bytes_of-tabulate : (o : Order) (types : List ℕ) (pos n : ℕ) → IsBytes types → pos + 4 * n ≤ length types → bytes_of o (tabulate (λ j. word32_at o types (pos + 4 * j)) n) ≡ take (4 * n) (drop pos types)
@@ -56,9 +56,9 @@ frame_is_frame o types pos fits allowed =
 pub bytes_of-frame_at : (o : Order) (types : List ℕ) (pos end : ℕ) → IsBytes types → end ≡ pos + 4 * words_at o types pos → end ≤ length types → bytes_of o (frame_at o types pos) ≡ take (4 * words_at o types pos) (drop pos types)
 bytes_of-frame_at o types pos end fits is h = bytes_of-tabulate o types pos (words_at o types pos) fits (omega arith)
 
-pub framed_more : (o : Order) (types places : List ℕ) (pos : ℕ) (head : RawHead) → IsBytes types → IsFramedTo o types places pos → HeadAt o types pos head → IsFramedTo o types (places ++ pos ∷ []) head.next
-framed_more o types places pos head fits so at =
-    let frames = frames_at o types places in
+pub framed_more : (o : Order) (types offsets : List ℕ) (pos : ℕ) (head : RawHead) → IsBytes types → IsFramedTo o types offsets pos → HeadAt o types pos head → IsFramedTo o types (offsets ++ pos ∷ []) head.next
+framed_more o types offsets pos head fits so at =
+    let frames = frames_at o types offsets in
     let words : tail_words head.kind head.vlen ≡ tail_words (kind_of (info_at o types pos)) (vlen_of (info_at o types pos)) = rw (at.kind, at.vlen) refl in
     let next : head.next ≡ pos + 4 * words_at o types pos = omega (arith, at.next, at.tail, words) in
     let bytes = bytes_of-frame_at o types pos head.next fits next at.inside in
@@ -69,23 +69,23 @@ framed_more o types places pos head fits so at =
           rw (map_push, next, flat_map-append (bytes_of o) frames (frame_at o types pos ∷ []), append-nil, so.whole, bytes)
           (sym (take-add pos (4 * words_at o types pos) types));
       inside = at.inside;
-      count = omega (arith, so.count, length-append places (pos ∷ []));
-      starts = λ i h. elim (cases_lt i (length places)) [
+      count = omega (arith, so.count, length-append offsets (pos ∷ []));
+      starts = λ i h. elim (cases_lt i (length offsets)) [
         | inl lt ↦
-            let inside : i ≤ length frames = omega (arith, length-map places (frame_at o types)) in
-            get_or-append places (pos ∷ []) 0 i lt ∙ so.starts i lt
+            let inside : i ≤ length frames = omega (arith, length-map offsets (frame_at o types)) in
+            get_or-append offsets (pos ∷ []) 0 i lt ∙ so.starts i lt
             ∙ rw (map_push, take-append-le i frames (frame_at o types pos ∷ []) inside) refl
         | inr le ↦
-            let is : i ≡ length places = omega (arith, length-append places (pos ∷ [])) in
-            let all : take (length places) (frames ++ frame_at o types pos ∷ []) ≡ frames = take_at frames (frame_at o types pos ∷ []) (length places) (length-map places (frame_at o types)) in
+            let is : i ≡ length offsets = omega (arith, length-append offsets (pos ∷ [])) in
+            let all : take (length offsets) (frames ++ frame_at o types pos ∷ []) ≡ frames = take_at frames (frame_at o types pos ∷ []) (length offsets) (length-map offsets (frame_at o types)) in
             rw (is, get_or-append_seam, map_push, all) (sym before)
       ];
     }
 
 -- the fault of the first record that isn't a frame
-pub first_framing_fault : (o : Order) (types places : List ℕ) (pos place : ℕ) (cause : BtfCause) → IsFramedTo o types places pos → LeastByOffset (HeadFault o types pos) place cause → LeastByOffset (FramingFault o types) place cause
-first_framing_fault o types places pos place cause so least =
-    let frames = frames_at o types places in
+pub first_framing_fault : (o : Order) (types offsets : List ℕ) (pos at_offset : ℕ) (cause : BtfCause) → IsFramedTo o types offsets pos → LeastByOffset (HeadFault o types pos) at_offset cause → LeastByOffset (FramingFault o types) at_offset cause
+first_framing_fault o types offsets pos at_offset cause so least =
+    let frames = frames_at o types offsets in
     let before : length (section_of o frames) ≡ pos = ap length so.whole ∙ length-take-le pos types so.inside in
     let whole : types ≡ section_of o frames ++ drop pos types = sym (rw so.whole (take-append-drop pos types)) in
     let no_frame : (x : List ℕ) (q : ℕ) (d : BtfCause) → RecordFault o x q d → IsNoFrame o x =
@@ -98,12 +98,12 @@ first_framing_fault o types places pos place cause so least =
         each = so.each;
         whole = whole;
         fault = least.holds.1;
-        place_is = rw before least.holds.2;
+        at_offset_is = rw before least.holds.2;
       };
       least = λ q d other.
           let same = frames_cancel o frames other.frames (drop pos types) other.rest so.each other.each
           (no_frame (drop pos types) least.holds.0 cause least.holds.1) (no_frame other.rest other.offset d other.fault) (sym whole ∙ other.whole) in
-          least.least q d (other.offset, subst (λ (b : List ℕ). RecordFault o b other.offset d) (sym same.rest) other.fault, other.place_is ∙ rw (← same.frames, before) refl);
+          least.least q d (other.offset, subst (λ (b : List ℕ). RecordFault o b other.offset d) (sym same.rest) other.fault, other.at_offset_is ∙ rw (← same.frames, before) refl);
     }
 
 -- what the search cites of the words of a frame

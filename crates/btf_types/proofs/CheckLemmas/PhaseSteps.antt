@@ -31,9 +31,9 @@ pub record HasStrings (b : List ℕ) (h : Header) : Type 0 where
   pub ends : HasNulEnds (strings_of b h)
   pub none : HasNone (StringsFault b)
 
-pub record HasFrames (b : List ℕ) (h : Header) (places : List ℕ) : Type 0 where
+pub record HasFrames (b : List ℕ) (h : Header) (offsets : List ℕ) : Type 0 where
   pub has_strings : HasStrings b h
-  pub framed : IsFramed h.order (types_of b h) places
+  pub framed : IsFramed h.order (types_of b h) offsets
   pub none : HasNone (FramesFault b)
 
 -- ---- from one phase to the next
@@ -68,7 +68,7 @@ first_string_fault b h p q c has least is = record {
     offset = q;
     cut = has.reads.cut;
     fault = least.holds;
-    place_is = is ∙ ap (λ (k : ℕ). k + q) has.reads.str_pos;
+    at_offset_is = is ∙ ap (λ (k : ℕ). k + q) has.reads.str_pos;
   };
   least = λ r d other. least.least other.offset d (rw (same_cut b h other.order other.types other.strings has other.cut).strings at other.fault);
 }
@@ -90,11 +90,11 @@ framing_has_none b o types strings frames cut framed p c fault =
     let same = cut_unique b fault.order o fault.types fault.strings types strings fault.cut cut in
     frames_have_none o types frames fault.offset c framed (rw (same.order, same.types) at fault.fault)
 
-pub framing_checked : (b : List ℕ) (h : Header) (places : List ℕ) → HasStrings b h → IsFramed h.order (types_of b h) places → HasFrames b h places
-framing_checked b h places has framed = record {
+pub framing_checked : (b : List ℕ) (h : Header) (offsets : List ℕ) → HasStrings b h → IsFramed h.order (types_of b h) offsets → HasFrames b h offsets
+framing_checked b h offsets has framed = record {
   has_strings = has;
   framed = framed;
-  none = framing_has_none b h.order (types_of b h) (strings_of b h) (frames_at h.order (types_of b h) places) has.header.reads.cut framed.frames;
+  none = framing_has_none b h.order (types_of b h) (strings_of b h) (frames_at h.order (types_of b h) offsets) has.header.reads.cut framed.frames;
 }
 
 pub first_frames_fault : (b : List ℕ) (h : Header) (p q : ℕ) (c : BtfCause) → HasStrings b h → LeastByOffset (FramingFault h.order (types_of b h)) q c → p ≡ h.types_pos + q → LeastByOffset (FramesFault b) p c
@@ -108,13 +108,13 @@ first_frames_fault b h p q c has least is = record {
     offset = q;
     cut = has.header.reads.cut;
     fault = least.holds;
-    place_is = is ∙ ap (λ (k : ℕ). k + q) has.header.reads.types_pos;
+    at_offset_is = is ∙ ap (λ (k : ℕ). k + q) has.header.reads.types_pos;
   };
   least = λ r d other.
       let same = same_cut b h other.order other.types other.strings has.header other.cut in
       let fault = rw (same.order, same.types) at other.fault in
       let base : types_at other.order b ≡ h.types_pos = ap (λ (o : Order). types_at o b) same.order ∙ sym has.header.reads.types_pos in
-      let place = other.place_is in
+      let at_offset = other.at_offset_is in
       elim (least.least other.offset d fault) [
         | inl before ↦ inl (omega arith)
         | inr here ↦ inr (omega (arith, here.0), here.1)
@@ -127,11 +127,11 @@ same_frames o types fs gs one other =
     let sections : section_of o fs ++ [] ≡ section_of o gs ++ [] = rw (append-nil, append-nil) (sym one.whole ∙ other.whole) in
     (frames_cancel o fs gs [] [] one.each other.each (nothing_is_no_frame o) (nothing_is_no_frame o) sections).frames
 
-pub first_fields_fault : (b : List ℕ) (h : Header) (places : List ℕ) (p q : ℕ) (c : BtfCause) → HasFrames b h places
-    → LeastByOffset (FieldFault (strings_of b h) (frames_at h.order (types_of b h) places)) q c → p ≡ h.types_pos + q → LeastByOffset (FieldsFault b) p c
-first_fields_fault b h places p q c has least is =
+pub first_fields_fault : (b : List ℕ) (h : Header) (offsets : List ℕ) (p q : ℕ) (c : BtfCause) → HasFrames b h offsets
+    → LeastByOffset (FieldFault (strings_of b h) (frames_at h.order (types_of b h) offsets)) q c → p ≡ h.types_pos + q → LeastByOffset (FieldsFault b) p c
+first_fields_fault b h offsets p q c has least is =
     let reads = has.has_strings.header.reads in
-    let frames = frames_at h.order (types_of b h) places in
+    let frames = frames_at h.order (types_of b h) offsets in
     record {
       holds = record {
         header = has.has_strings.header.none;
@@ -145,14 +145,14 @@ first_fields_fault b h places p q c has least is =
         cut = reads.cut;
         framed = has.framed.frames;
         fault = least.holds;
-        place_is = is ∙ ap (λ (k : ℕ). k + q) reads.types_pos;
+        at_offset_is = is ∙ ap (λ (k : ℕ). k + q) reads.types_pos;
       };
       least = λ r d other.
           let same = same_cut b h other.order other.types other.strings has.has_strings.header other.cut in
           let these = same_frames h.order (types_of b h) other.frames frames (rw (same.order, same.types) at other.framed) has.framed.frames in
           let fault = rw (same.strings, these) at other.fault in
           let base : types_at other.order b ≡ h.types_pos = ap (λ (o : Order). types_at o b) same.order ∙ sym reads.types_pos in
-          let place = other.place_is in
+          let at_offset = other.at_offset_is in
           elim (least.least other.offset d fault) [
             | inl before ↦ inl (omega arith)
             | inr here ↦ inr (omega (arith, here.0), here.1)
@@ -171,8 +171,8 @@ fails_framing b h (errors.Fault fault) has least =
     first_of_frames b (h.types_pos + fault.pos) fault.cause (first_frames_fault b h (h.types_pos + fault.pos) fault.pos fault.cause has least refl)
 fails_framing b h errors.Memory has least = tt
 
-pub fails_fields : (b : List ℕ) (h : Header) (places : List ℕ) (e : BtfError) → HasFrames b h places → FailsFields h.order (types_of b h) (strings_of b h) places e
+pub fails_fields : (b : List ℕ) (h : Header) (offsets : List ℕ) (e : BtfError) → HasFrames b h offsets → FailsFields h.order (types_of b h) (strings_of b h) offsets e
     → Fails b (moved h.types_pos e)
-fails_fields b h places (errors.Fault fault) has least =
-    first_of_fields b (h.types_pos + fault.pos) fault.cause (first_fields_fault b h places (h.types_pos + fault.pos) fault.pos fault.cause has least refl)
-fails_fields b h places errors.Memory has least = tt
+fails_fields b h offsets (errors.Fault fault) has least =
+    first_of_fields b (h.types_pos + fault.pos) fault.cause (first_fields_fault b h offsets (h.types_pos + fault.pos) fault.pos fault.cause has least refl)
+fails_fields b h offsets errors.Memory has least = tt

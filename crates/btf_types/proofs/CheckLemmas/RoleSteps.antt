@@ -131,7 +131,7 @@ module _ (frame : List ℕ) (j : ℕ) (role : Role) (each : HasRole (kind frame)
   member_role at = let is = member_part 1 (lit< tt) at in (each.tail is.0).member at.0 is.1
 
   place_role : IsMemberWord frame 2 j → role ≡ roles.MemberPlace
-  place_role at = let is = member_part 2 (lit< tt) at in (each.tail is.0).place at.0 is.1
+  place_role at = let is = member_part 2 (lit< tt) at in (each.tail is.0).at_offset at.0 is.1
 
   array_role : kind frame ≡ ARRAY → (j ≡ 3) ⊎ (j ≡ 4) → role ≡ roles.NamedType
   array_role array at =

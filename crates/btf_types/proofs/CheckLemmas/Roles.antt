@@ -50,7 +50,7 @@ pub record PartHasRole (kind m : ℕ) (role : Role) : Type 0 where
   pub param : kind ≡ FUNC_PROTO → m ≡ 1 → role ≡ NamedType
   pub entry : kind ≡ DATASEC → m ≡ 0 → role ≡ NamedType
   pub member : IsTrue (is_struct kind) → m ≡ 1 → role ≡ MemberType
-  pub place : IsTrue (is_struct kind) → m ≡ 2 → role ≡ MemberPlace
+  pub at_offset : IsTrue (is_struct kind) → m ≡ 2 → role ≡ MemberPlace
 
 -- likewise for field j of a complete record
 abbrev pub RoleIs : ℕ → ℕ → Role → Type 0

@@ -12,7 +12,7 @@ use Rattle.btf_types.specs.checks.Texts.{BeginsChar, IsNextChar}
 
 pub text_end : (s : List ℕ) (at : ℕ) (text : List ℕ) → TextAt s at text → at + length text < length s
 text_end s at text t =
-    omega (arith, t.place, ap length t.is_there, length-append (t.before ++ text) (0 ∷ t.after), length-append t.before text)
+    omega (arith, t.at_offset, ap length t.is_there, length-append (t.before ++ text) (0 ∷ t.after), length-append t.before text)
 
 -- from an offset inside it on, it is a string too
 pub suffix_text : (s : List ℕ) (at o : ℕ) (text : List ℕ) → TextAt s at text → o ≤ length text → TextAt s (at + o) (drop o text)
@@ -20,7 +20,7 @@ suffix_text s at o text t low = record {
   without_nul = λ i h e. t.without_nul (o + i) (omega (arith, length-drop o text)) (sym (get_or-drop o text i 0) ∙ e);
   before = t.before ++ take o text;
   after = t.after;
-  place = omega (arith, t.place, length-append t.before (take o text), length-take-le o text low);
+  at_offset = omega (arith, t.at_offset, length-append t.before (take o text), length-take-le o text low);
   is_there = t.is_there ∙ ap (λ (x : List ℕ). (t.before ++ x) ++ 0 ∷ t.after) (sym (take-append-drop o text)) ∙ ap (λ (x : List ℕ). x ++ 0 ∷ t.after) (sym (append_assoc t.before (take o text) (drop o text)));
 }
 

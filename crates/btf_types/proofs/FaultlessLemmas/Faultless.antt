@@ -62,7 +62,7 @@ module _ (strings : List ℕ) (frames : List (List ℕ)) (ends : HasNulEnds stri
   types = map frame_facts frames
 
   pub faultless : (i : ℕ) (f : List ℕ) → slice_get frames i ≡ Some f → IsFaultless strings types f
-  faultless i f is j c inside fault = none _ c (record { index = i; frame = f; word = j; frame_is = is; inside = inside; fault = fault; place_is = refl })
+  faultless i f is j c inside fault = none _ c (record { index = i; frame = f; word = j; frame_is = is; inside = inside; fault = fault; at_offset_is = refl })
 
   -- a FUNC among the types names a FUNC_PROTO
   its_target : (t : TypeFacts) → IsTypeOf frames t → t.kind ≡ FUNC → (type_at types t.target).kind ≡ FUNC_PROTO
@@ -157,10 +157,10 @@ module _ (strings : List ℕ) (frames : List (List ℕ)) (ends : HasNulEnds stri
   }
 
 -- If no field of the frames at these offsets has a fault, they are a table.
-pub fields_are_right : (o : Order) (types strings places : List ℕ) → IsFramed o types places → HasNulEnds strings → length strings ≤ STRINGS_LIMIT → length types ≤ TYPES_LIMIT
-    → HasNone (FieldFault strings (frames_at o types places)) → IsTable (words_at o types strings places)
-fields_are_right o types strings places framed ends short few none =
-    let frames = frames_at o types places in
+pub fields_are_right : (o : Order) (types strings offsets : List ℕ) → IsFramed o types offsets → HasNulEnds strings → length strings ≤ STRINGS_LIMIT → length types ≤ TYPES_LIMIT
+    → HasNone (FieldFault strings (frames_at o types offsets)) → IsTable (words_at o types strings offsets)
+fields_are_right o types strings offsets framed ends short few none =
+    let frames = frames_at o types offsets in
     let whole = framed.frames.whole in
     record {
       short = short;

@@ -10,7 +10,7 @@ use Rattle.btf_types.proofs.StringLemmas.TableLaws.{shared_is_shortest, first_is
 
 first_byte : (section : List ℕ) → slice_get section 0 ≡ Some 0 → TextAt section 0 []
 first_byte [] e = absurd cc
-first_byte (b ∷ rest) e = record { without_nul = λ i h q. omega (arith, h); before = []; after = rest; place = refl; is_there = (let z : b ≡ 0 = cc in ap (λ (n : ℕ). n ∷ rest) z) }
+first_byte (b ∷ rest) e = record { without_nul = λ i h q. omega (arith, h); before = []; after = rest; at_offset = refl; is_there = (let z : b ≡ 0 = cc in ap (λ (n : ℕ). n ∷ rest) z) }
 
 -- the empty name is at the first byte
 pub empty_there : (section : List ℕ) → HasNulEnds section → HasName section []

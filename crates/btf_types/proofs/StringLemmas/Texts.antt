@@ -49,13 +49,13 @@ text_at_offset ks x h n = record {
   without_nul = n;
   before = table_of (before_first (bytes_eq x) ks);
   after = flat_map with_nul (after_first (bytes_eq x) ks);
-  place = refl;
+  at_offset = refl;
   is_there = table_split ks x h;
 }
 
 -- the empty string is at the first byte of the table
 pub empty_at_zero : (ks : List (List ℕ)) → TextAt (table_of ks) 0 []
-empty_at_zero ks = record { without_nul = λ i h e. omega (arith, h); before = []; after = flat_map with_nul ks; place = refl; is_there = refl }
+empty_at_zero ks = record { without_nul = λ i h e. omega (arith, h); before = []; after = flat_map with_nul ks; at_offset = refl; is_there = refl }
 
 pub IsWithoutNul-suffix : (front x : List ℕ) → IsWithoutNul (front ++ x) → IsWithoutNul x
 IsWithoutNul-suffix [] x n = n
@@ -67,7 +67,7 @@ tail_at section offset front x t = record {
   without_nul = IsWithoutNul-suffix front x t.without_nul;
   before = t.before ++ front;
   after = t.after;
-  place = length-append t.before front ∙ ap (λ (n : ℕ). n + length front) t.place;
+  at_offset = length-append t.before front ∙ ap (λ (n : ℕ). n + length front) t.at_offset;
   is_there = t.is_there ∙ ap (λ (s : List ℕ). s ++ 0 ∷ t.after) (sym (append_assoc t.before front x));
 }
 

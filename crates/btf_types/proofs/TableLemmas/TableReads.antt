@@ -32,14 +32,14 @@ tag_in_range : (name frame : List ℕ) → kind frame ≡ DECL_TAG → HeadInRan
 unfolding head_from
 tag_in_range name frame tag range = let opened = rw tag at range in opened.1
 
-pub has_record_at : (o : Order) (types strings places : List ℕ) (i : ℕ) → IsChecked o types strings places → i < length places → HasRecordAt o types strings (get_or places i 0)
-has_record_at o types strings places i checked h =
+pub has_record_at : (o : Order) (types strings offsets : List ℕ) (i : ℕ) → IsChecked o types strings offsets → i < length offsets → HasRecordAt o types strings (get_or offsets i 0)
+has_record_at o types strings offsets i checked h =
     let table = checked.table in
-    let frames = frames_at o types places in
-    let pos = get_or places i 0 in
+    let frames = frames_at o types offsets in
+    let pos = get_or offsets i 0 in
     let f = frame_at o types pos in
-    let inside : i < length frames = omega (arith, length-map places (frame_at o types)) in
-    let frame-is : get_or frames i [] ≡ f = get_or-map (frame_at o types) places i 0 [] h in
+    let inside : i < length frames = omega (arith, length-map offsets (frame_at o types)) in
+    let frame-is : get_or frames i [] ≡ f = get_or-map (frame_at o types) offsets i 0 [] h in
     let start = checked.framed.starts i h in
     let whole : length types ≡ length (section_of o frames) = ap length checked.framed.frames.whole in
     let room : length (section_of o (take i frames)) + 4 * length f ≤ length (section_of o frames) = rw frame-is at (ends_inside o frames i inside) in
@@ -61,28 +61,28 @@ has_record_at o types strings places i checked h =
     }
 
 -- what is read at the offset of the record with an ID
-pub record ReadsRecordOf (o : Order) (types strings places : List ℕ) (id : ℕ) : Type 0 where
-  pub place : id - 1 < length places
-  pub here : HasRecordAt o types strings (get_or places (id - 1) 0)
-  pub frame : slice_get (frames_at o types places) (id - 1) ≡ Some (frame_at o types (get_or places (id - 1) 0))
-  pub is : record_at (records_at o types strings places) id ≡ record_of strings (frame_at o types (get_or places (id - 1) 0))
+pub record ReadsRecordOf (o : Order) (types strings offsets : List ℕ) (id : ℕ) : Type 0 where
+  pub at_offset : id - 1 < length offsets
+  pub here : HasRecordAt o types strings (get_or offsets (id - 1) 0)
+  pub frame : slice_get (frames_at o types offsets) (id - 1) ≡ Some (frame_at o types (get_or offsets (id - 1) 0))
+  pub is : record_at (records_at o types strings offsets) id ≡ record_of strings (frame_at o types (get_or offsets (id - 1) 0))
 
-pub record_read : (o : Order) (types strings places : List ℕ) (id : ℕ) → IsChecked o types strings places → 0 < id → id ≤ length (frames_at o types places) → ReadsRecordOf o types strings places id
-record_read o types strings places id checked some low =
-    let place : id - 1 < length places = omega (arith, length-map places (frame_at o types)) in
-    let frame : slice_get (frames_at o types places) (id - 1) ≡ Some (frame_at o types (get_or places (id - 1) 0)) = get-map (frame_at o types) places (id - 1) 0 place in
-    let got : slice_get (records_at o types strings places) (id - 1) ≡ Some (record_of strings (frame_at o types (get_or places (id - 1) 0))) =
-    get-map (record_of strings) (frames_at o types places) (id - 1) [] (omega arith)
-    ∙ ap (λ (f : List ℕ). Some (record_of strings f)) (get_or-map (frame_at o types) places (id - 1) 0 [] place) in
+pub record_read : (o : Order) (types strings offsets : List ℕ) (id : ℕ) → IsChecked o types strings offsets → 0 < id → id ≤ length (frames_at o types offsets) → ReadsRecordOf o types strings offsets id
+record_read o types strings offsets id checked some low =
+    let at_offset : id - 1 < length offsets = omega (arith, length-map offsets (frame_at o types)) in
+    let frame : slice_get (frames_at o types offsets) (id - 1) ≡ Some (frame_at o types (get_or offsets (id - 1) 0)) = get-map (frame_at o types) offsets (id - 1) 0 at_offset in
+    let got : slice_get (records_at o types strings offsets) (id - 1) ≡ Some (record_of strings (frame_at o types (get_or offsets (id - 1) 0))) =
+    get-map (record_of strings) (frames_at o types offsets) (id - 1) [] (omega arith)
+    ∙ ap (λ (f : List ℕ). Some (record_of strings f)) (get_or-map (frame_at o types) offsets (id - 1) 0 [] at_offset) in
     record {
-      place = place;
-      here = has_record_at o types strings places (id - 1) checked place;
+      at_offset = at_offset;
+      here = has_record_at o types strings offsets (id - 1) checked at_offset;
       frame = frame;
       is = ap (λ r. unwrap_or r no_record) got;
     }
 
-pub length_records_at : (o : Order) (types strings places : List ℕ) → length (records_at o types strings places) ≡ length places
-length_records_at o types strings places = length-map (frames_at o types places) (record_of strings) ∙ length-map places (frame_at o types)
+pub length_records_at : (o : Order) (types strings offsets : List ℕ) → length (records_at o types strings offsets) ≡ length offsets
+length_records_at o types strings offsets = length-map (frames_at o types offsets) (record_of strings) ∙ length-map offsets (frame_at o types)
 
 pub count_there : (strings frame : List ℕ) → length (record_of strings frame).items ≡ item_total frame
 count_there strings frame = length-tabulate (λ i. item_of strings frame (3 + item_words (kind frame) * i)) (item_total frame)

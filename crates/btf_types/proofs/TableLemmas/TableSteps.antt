@@ -31,20 +31,20 @@ frames_denote b o types strings v frames cut ends framed encoded valid = record 
   valid = valid;
 }
 
-pub holds_sections : (b : List ℕ) (h : Header) (places : List ℕ) → HasFrames b h places → IsTable (words_at h.order (types_of b h) (strings_of b h) places)
-    → HoldsSections b (words_at h.order (types_of b h) (strings_of b h) places)
-holds_sections b h places has right =
+pub holds_sections : (b : List ℕ) (h : Header) (offsets : List ℕ) → HasFrames b h offsets → IsTable (words_at h.order (types_of b h) (strings_of b h) offsets)
+    → HoldsSections b (words_at h.order (types_of b h) (strings_of b h) offsets)
+holds_sections b h offsets has right =
     let cut = has.has_strings.header.reads.cut in
     let framed = has.framed.frames in
-    let frames = frames_at h.order (types_of b h) places in
+    let frames = frames_at h.order (types_of b h) offsets in
     record {
       cut = subst (λ (types : List ℕ). Cut b h.order types (strings_of b h)) framed.whole cut;
       each = framed.each;
       denotes = frames_denote b h.order (types_of b h) (strings_of b h) _ frames cut has.has_strings.ends framed right.encoded right.valid;
     }
 
-pub is_checked : (b : List ℕ) (h : Header) (places : List ℕ) → HasFrames b h places → IsTable (words_at h.order (types_of b h) (strings_of b h) places) → IsChecked h.order (types_of b h) (strings_of b h) places
-is_checked b h places has right = record {
+pub is_checked : (b : List ℕ) (h : Header) (offsets : List ℕ) → HasFrames b h offsets → IsTable (words_at h.order (types_of b h) (strings_of b h) offsets) → IsChecked h.order (types_of b h) (strings_of b h) offsets
+is_checked b h offsets has right = record {
   few = omega (arith, has.framed.count, has.has_strings.header.reads.cut.types_fit);
   framed = has.framed;
   table = right;

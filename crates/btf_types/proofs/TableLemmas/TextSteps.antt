@@ -36,7 +36,7 @@ text_there strings offset ends h =
       without_nul = nul.no_nul;
       before = take offset strings;
       after = nul.rest;
-      place = length-take-le offset strings (omega arith);
+      at_offset = length-take-le offset strings (omega arith);
       is_there =
           sym (take-append-drop offset strings) ∙ ap (λ (t : List ℕ). take offset strings ++ t) nul.parts
           ∙ sym (append_assoc (take offset strings) (text_from strings offset) (0 ∷ nul.rest));

@@ -101,11 +101,11 @@ WordFault strings types frame j Component =
 WordFault strings types frame j _ = ⊥
 
 -- A field of the section has the fault. Offsets count bytes from the start of the type section.
-pub record FieldFault (strings : List ℕ) (frames : List (List ℕ)) (place : ℕ) (cause : BtfCause) : Type 0 where
+pub record FieldFault (strings : List ℕ) (frames : List (List ℕ)) (at_offset : ℕ) (cause : BtfCause) : Type 0 where
   pub index : ℕ
   pub frame : List ℕ
   pub word : ℕ
   pub frame_is : slice_get frames index ≡ Some frame
   pub inside : word < length frame
   pub fault : WordFault strings (map frame_facts frames) frame word cause
-  pub place_is : place ≡ 4 * (length (concat (take index frames)) + word)
+  pub at_offset_is : at_offset ≡ 4 * (length (concat (take index frames)) + word)

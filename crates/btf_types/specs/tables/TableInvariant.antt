@@ -6,10 +6,10 @@ use Rattle.btf_raw.specs.{Header.HasNulEnds, Header.STRINGS_LIMIT, Frames.IsFram
 use Rattle.btf_types.specs.{Encoding.Encodes, Valid.IsValid, checks.FieldFaults.FieldFault, Reading.frames_at, Sections.SectionWords, Sections.words_at, Sections.records_in}
 
 -- The offsets are those of the frames of the section, in order.
-pub record IsFramed (o : Order) (types places : List ℕ) : Type 0 where
-  pub frames : Frames o types (frames_at o types places)
-  pub count : length places ≤ length types
-  pub starts : (i : ℕ) → i < length places → slice_index places i ≡ length (section_of o (take i (frames_at o types places)))
+pub record IsFramed (o : Order) (types offsets : List ℕ) : Type 0 where
+  pub frames : Frames o types (frames_at o types offsets)
+  pub count : length offsets ≤ length types
+  pub starts : (i : ℕ) → i < length offsets → slice_index offsets i ≡ length (section_of o (take i (frames_at o types offsets)))
 
 -- The frames are complete, and no field of them has a fault. So they encode the records that they decode to, and these are valid.
 pub record IsTable (s : SectionWords) : Type 0 where
@@ -21,7 +21,7 @@ pub record IsTable (s : SectionWords) : Type 0 where
   pub valid : IsValid (records_in s)
 
 -- The offsets are those of the frames of a type section, and these are a table.
-pub record IsChecked (o : Order) (types strings places : List ℕ) : Type 0 where
-  pub few : length places < 2 ^ 32
-  pub framed : IsFramed o types places
-  pub table : IsTable (words_at o types strings places)
+pub record IsChecked (o : Order) (types strings offsets : List ℕ) : Type 0 where
+  pub few : length offsets < 2 ^ 32
+  pub framed : IsFramed o types offsets
+  pub table : IsTable (words_at o types strings offsets)

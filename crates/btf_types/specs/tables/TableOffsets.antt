@@ -14,9 +14,9 @@ TypeRecords = List TypeRecord
 
 -- the records that are read at the offsets that a table keeps
 abbrev pub placed_records : Order → List ℕ → List ℕ → TableOffsets → TypeRecords
-placed_records o types strings places = records_at o types strings places.records
+placed_records o types strings offsets = records_at o types strings offsets.records
 
 -- the records at the offsets that a table keeps are framed, without fault, encoded there and valid
-pub record IsPlacedTable (o : Order) (types strings : List ℕ) (places : TableOffsets) : Type 0 where
-  pub table : IsChecked o types strings places.records
-  pub ends : AreLongEnds strings places.ends
+pub record IsPlacedTable (o : Order) (types strings : List ℕ) (offsets : TableOffsets) : Type 0 where
+  pub table : IsChecked o types strings offsets.records
+  pub ends : AreLongEnds strings offsets.ends

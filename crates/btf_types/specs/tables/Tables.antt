@@ -18,8 +18,8 @@ FailsFraming o types errors.Memory = ⊤
 
 -- Likewise for the fields of its records.
 abbrev pub FailsFields : Order → List ℕ → List ℕ → List ℕ → BtfError → Type 0
-FailsFields o types strings places (errors.Fault fault) = LeastByOffset (FieldFault strings (frames_at o types places)) fault.pos fault.cause
-FailsFields o types strings places errors.Memory = ⊤
+FailsFields o types strings offsets (errors.Fault fault) = LeastByOffset (FieldFault strings (frames_at o types offsets)) fault.pos fault.cause
+FailsFields o types strings offsets errors.Memory = ⊤
 
 -- the error, with the offset of its fault increased by base
 abbrev pub moved : ℕ → BtfError → BtfError

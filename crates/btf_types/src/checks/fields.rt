@@ -66,8 +66,8 @@ fn first_field_fault(section: &Section) -> Option<BtfFault>
         (λ fault. LeastByOffset (FieldFault section.now.strings section.now.frames)
         fault.pos fault.cause) }
 {
-    for i in 0..section.places.len() {
-        let pos = section.places[i] as usize;
+    for i in 0..section.offsets.len() {
+        let pos = section.offsets[i] as usize;
         let this = Record::at(section.order, section.types, pos);
         if let Some((word, cause)) = record_fault(section, &this) {
             return Some(BtfFault {
@@ -90,23 +90,23 @@ pub fn check_fields<'s, A: Allocator>(
     order: Order,
     types: &'s [u8],
     strings: &'s [u8],
-    places: &'s [u32],
+    offsets: &'s [u32],
 ) -> Result<(), BtfError>
     requires ends { HasNulEnds strings.now }
     requires short { length strings.now ≤ STRINGS_LIMIT }
     requires few { length types.now ≤ 2 ^ 25 }
-    requires framed { IsFramed order types.now places.now }
+    requires framed { IsFramed order types.now offsets.now }
     ensures inside { FaultInside (2 ^ 25) result }
     ensures cases { MatchResult result
-        (λ _. IsTable (words_at order types.now strings.now places.now))
-        (FailsFields order types.now strings.now places.now) }
+        (λ _. IsTable (words_at order types.now strings.now offsets.now))
+        (FailsFields order types.now strings.now offsets.now) }
 {
     let marks = marks_unless_utf8(alloc, strings)?;
     let section = Section {
         order,
         types,
         strings,
-        places,
+        offsets,
         marks: marks.as_ref().map(|marks| &marks[..]),
     };
     match first_field_fault(&section) {

@@ -141,7 +141,7 @@ pub fn first_words_fault(section: &Section, this: &Record) -> Option<(usize, Btf
 pub fn named_type_fault(section: &Section, kind: u8, target: u32) -> Option<BtfCause>
     ensures { spec.IsLeastOf (faults.NamedTypeFault (facts_in section.now) kind target) result }
 {
-    if target as usize > section.places.len() {
+    if target as usize > section.offsets.len() {
         return Some(BtfCause::Reference);
     }
     (!named_kind_fits(section, kind, target)).then_some(BtfCause::TargetKind)
@@ -167,7 +167,7 @@ pub fn member_type_fault(section: &Section, bit_fields: bool, target: u32) -> Op
     ensures { spec.IsLeastOf
         (faults.MemberTypeFault (facts_in section.now) bit_fields target) result }
 {
-    if target as usize > section.places.len() {
+    if target as usize > section.offsets.len() {
         return Some(BtfCause::Reference);
     }
     (bit_fields && !member_int_fits(section, target)).then_some(BtfCause::MemberInt)

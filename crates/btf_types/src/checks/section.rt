@@ -21,7 +21,7 @@ pub struct Section<'a, 'm> {
     /// The bytes of the string section.
     pub strings: &'a [u8],
     /// The offset of each record, in bytes from the start of `types`.
-    pub places: &'a [u32],
+    pub offsets: &'a [u32],
     /// For each byte of the string section, whether the string that begins there is UTF-8; `None`
     /// if all of the section is.
     pub marks: Option<&'m [bool]>,
@@ -46,10 +46,10 @@ impl<'a> Section<'a, '_> {
         ensures { MatchOption result (type_at (facts_in self.now) id ≡ no_type)
             (λ this. IsFrame this × (type_at (facts_in self.now) id ≡ frame_facts this)) }
     {
-        if id == 0 || id as usize > self.places.len() {
+        if id == 0 || id as usize > self.offsets.len() {
             return None;
         }
-        let pos = self.places[id as usize - 1] as usize;
+        let pos = self.offsets[id as usize - 1] as usize;
         Some(Record::at(self.order, self.types, pos))
     }
 }

@@ -13,7 +13,7 @@ ghost use Rattle.btf_types.specs.tables.Tables as tables;
 
 use crate::checks::fields::check_fields;
 use crate::error::BtfError;
-use crate::tables::{FileSections, record_places};
+use crate::tables::{FileSections, record_offsets};
 use bpf_words::Order;
 use btf_raw::{check_strings, read_header};
 use std::alloc::{Allocator, Global};
@@ -29,7 +29,7 @@ pub struct CheckedFile<'a, A: Allocator = Global> {
     pub(crate) types: &'a [u8],
     pub(crate) strings: &'a [u8],
     /// The offset of each record, in bytes from the start of `types`, in order of IDs from 1.
-    pub(crate) places: Vec<u32, A>,
+    pub(crate) offsets: Vec<u32, A>,
 }
 
 impl<'a, A: Allocator> Model for CheckedFile<'a, A> {
@@ -38,9 +38,9 @@ impl<'a, A: Allocator> Model for CheckedFile<'a, A> {
 
     ghost Value = { SectionWords };
 
-    ghost view = { λ f. words_at f.order f.types.now f.strings.now f.places.items };
+    ghost view = { λ f. words_at f.order f.types.now f.strings.now f.offsets.items };
 
-    ghost invariant = { λ f. IsChecked f.order f.types.now f.strings.now f.places.items };
+    ghost invariant = { λ f. IsChecked f.order f.types.now f.strings.now f.offsets.items };
 }
 
 /// Converts the offset of an error from a section that begins at `base` to an offset in the file.
@@ -75,18 +75,18 @@ impl<'a, A: Allocator> CheckedFile<'a, A> {
         if let Err(fault) = check_strings(strings) {
             return Err(moved(header.str_pos, BtfError::Fault(fault)));
         }
-        let places = match record_places(alloc, order, types) {
-            Ok(places) => places,
+        let offsets = match record_offsets(alloc, order, types) {
+            Ok(offsets) => offsets,
             Err(error) => return Err(moved(header.types_pos, error)),
         };
-        if let Err(error) = check_fields(places.allocator(), order, types, strings, &places) {
+        if let Err(error) = check_fields(offsets.allocator(), order, types, strings, &offsets) {
             return Err(moved(header.types_pos, error));
         }
         Ok(CheckedFile {
             order,
             types,
             strings,
-            places,
+            offsets,
         })
     }
 
@@ -94,14 +94,14 @@ impl<'a, A: Allocator> CheckedFile<'a, A> {
     pub fn count(&self) -> u32
         ensures { result ≡ length self.now.frames }
     {
-        self.places.len() as u32
+        self.offsets.len() as u32
     }
 
     /// The sections of the file.
     pub fn sections(&self) -> FileSections<'_>
         ensures { result ≡ self.now }
     {
-        FileSections::new(self.order, self.types, self.strings, &self.places)
+        FileSections::new(self.order, self.types, self.strings, &self.offsets)
     }
 }
 

@@ -22,7 +22,7 @@ pub struct FileSections<'t> {
     types: &'t [u8],
     strings: &'t [u8],
     /// The offset of each record, in bytes from the start of `types`, in order of IDs from 1.
-    places: &'t [u32],
+    offsets: &'t [u32],
 }
 
 impl<'t> Model for FileSections<'t> {
@@ -31,27 +31,27 @@ impl<'t> Model for FileSections<'t> {
 
     ghost Value = { SectionWords };
 
-    ghost view = { λ s. words_at s.order s.types.now s.strings.now s.places.now };
+    ghost view = { λ s. words_at s.order s.types.now s.strings.now s.offsets.now };
 
-    ghost invariant = { λ s. IsChecked s.order s.types.now s.strings.now s.places.now };
+    ghost invariant = { λ s. IsChecked s.order s.types.now s.strings.now s.offsets.now };
 }
 
 impl<'t> FileSections<'t> {
-    /// The sections of a checked file. `places` are the offsets of its records.
+    /// The sections of a checked file. `offsets` are the offsets of its records.
     pub(crate) fn new(
         order: Order,
         types: &'t [u8],
         strings: &'t [u8],
-        places: &'t [u32],
+        offsets: &'t [u32],
     ) -> FileSections<'t>
-        requires { IsChecked order types.now strings.now places.now }
-        ensures { result ≡ words_at order types.now strings.now places.now }
+        requires { IsChecked order types.now strings.now offsets.now }
+        ensures { result ≡ words_at order types.now strings.now offsets.now }
     {
         FileSections {
             order,
             types,
             strings,
-            places,
+            offsets,
         }
     }
 
@@ -68,7 +68,7 @@ impl<'t> FileSections<'t> {
         ensures count { result ≡ length self.now.frames }
         ensures table { IsTable self.now }
     {
-        self.places.len() as u32
+        self.offsets.len() as u32
     }
 
     /// The record with the ID `id`, which is 1 to [`FileSections::count`].
@@ -80,7 +80,7 @@ impl<'t> FileSections<'t> {
         ensures frame { slice_get self.now.frames (id - 1) ≡ Some result }
         ensures is { record_at (records_in self.now) id ≡ record_of self.now.strings result }
     {
-        let pos = self.places[id as usize - 1] as usize;
+        let pos = self.offsets[id as usize - 1] as usize;
         Record::at(self.order, self.types, pos)
     }
 

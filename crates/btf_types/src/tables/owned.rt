@@ -10,7 +10,7 @@ ghost use Rattle.btf_types.specs.tables.{TableWords.numbered, Windows.items_of};
 
 use crate::error::BtfError;
 use crate::tables::{
-    BtfView, FileSections, Items, KeepsSections, Places, Records, SectionTable, TypeTable,
+    BtfView, FileSections, Items, KeepsSections, KeptOffsets, Records, SectionTable, TypeTable,
 };
 use crate::values::Head;
 use bpf_words::Order;
@@ -27,7 +27,7 @@ pub struct Btf<A: Allocator = Global> {
     order: Order,
     types: Vec<u8, A>,
     strings: Vec<u8, A>,
-    places: Places<A>,
+    offsets: KeptOffsets<A>,
 }
 
 impl<A: Allocator> Model for Btf<A> {
@@ -35,9 +35,9 @@ impl<A: Allocator> Model for Btf<A> {
 
     ghost Value = { placed.TypeRecords };
 
-    ghost view = { λ t. placed.placed_records t.order t.types.items t.strings.items t.places };
+    ghost view = { λ t. placed.placed_records t.order t.types.items t.strings.items t.offsets };
 
-    ghost invariant = { λ t. placed.IsPlacedTable t.order t.types.items t.strings.items t.places };
+    ghost invariant = { λ t. placed.IsPlacedTable t.order t.types.items t.strings.items t.offsets };
 }
 
 impl<A: Allocator + Clone> Btf<A> {
@@ -52,12 +52,12 @@ impl<A: Allocator + Clone> Btf<A> {
         let view = BtfView::parse(alloc.clone()?, bytes)?;
         let types = Vec::from_slice(alloc.clone()?, view.types)?;
         let strings = Vec::from_slice(alloc, view.strings)?;
-        let BtfView { order, places, .. } = view;
+        let BtfView { order, offsets, .. } = view;
         Ok(Btf {
             order,
             types,
             strings,
-            places,
+            offsets,
         })
     }
 }
@@ -86,9 +86,9 @@ impl<A: Allocator> KeepsSections for Btf<A> {
             self.order,
             &self.types,
             &self.strings,
-            self.places.records(),
+            self.offsets.records(),
         );
-        SectionTable::new(file, self.places.ends())
+        SectionTable::new(file, self.offsets.ends())
     }
 }
 

@@ -37,7 +37,7 @@ fn nul_between(strings: &[u8], off: usize, to: usize) -> Option<usize>
 #[tactic(auto, using(crate::proofs::StringLemmas::LongEnds::none_yet))]
 pub fn push_long_ends<A: Allocator>(out: &mut Vec<u32, A>, strings: &[u8]) -> Result<(), AllocError>
     requires ends { HasNulEnds strings.now }
-    requires room { length strings.now < 2 ^ 32 }
+    requires capacity { length strings.now < 2 ^ 32 }
     ensures kept { OnOk result (take (length out.old.items) out.new.items ≡ out.old.items) }
     ensures ends { OnOk result (AreLongEnds strings.now (drop
         (length out.old.items) out.new.items)) }

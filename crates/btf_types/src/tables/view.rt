@@ -10,7 +10,7 @@ ghost use Rattle.btf_types.specs.tables.Tables.{Fails};
 use crate::error::BtfError;
 use crate::reading::{head_of, item_of};
 use crate::tables::{
-    CheckedFile, FileSections, Items, KeepsSections, Places, Records, SectionTable, TypeTable,
+    CheckedFile, FileSections, Items, KeepsSections, KeptOffsets, Records, SectionTable, TypeTable,
 };
 use crate::values::{Head, Item};
 use bpf_words::Order;
@@ -48,7 +48,7 @@ pub struct BtfView<'a, A: Allocator = Global> {
     pub(crate) order: Order,
     pub(crate) types: &'a [u8],
     pub(crate) strings: &'a [u8],
-    pub(crate) places: Places<A>,
+    pub(crate) offsets: KeptOffsets<A>,
 }
 
 impl<'a, A: Allocator> Model for BtfView<'a, A> {
@@ -56,9 +56,9 @@ impl<'a, A: Allocator> Model for BtfView<'a, A> {
 
     ghost Value = { placed.TypeRecords };
 
-    ghost view = { λ t. placed.placed_records t.order t.types.now t.strings.now t.places };
+    ghost view = { λ t. placed.placed_records t.order t.types.now t.strings.now t.offsets };
 
-    ghost invariant = { λ t. placed.IsPlacedTable t.order t.types.now t.strings.now t.places };
+    ghost invariant = { λ t. placed.IsPlacedTable t.order t.types.now t.strings.now t.offsets };
 }
 
 #[tactic(auto, using(crate::proofs::TableLemmas::TableReads::placed))]
@@ -76,13 +76,13 @@ impl<'a, A: Allocator> BtfView<'a, A> {
             order,
             types,
             strings,
-            places,
+            offsets,
         } = CheckedFile::check(alloc, bytes)?;
         Ok(BtfView {
             order,
             types,
             strings,
-            places: Places::new(places, strings)?,
+            offsets: KeptOffsets::new(offsets, strings)?,
         })
     }
 
@@ -109,9 +109,9 @@ impl<'a, A: Allocator> BtfView<'a, A> {
         requires last { id ≤ length self.now }
         ensures { head_value result ≡ (record_at self.now id).head }
     {
-        let file = FileSections::new(self.order, self.types, self.strings, self.places.records());
+        let file = FileSections::new(self.order, self.types, self.strings, self.offsets.records());
         let this = file.record(id);
-        head_of(self.strings, self.places.ends(), &this)
+        head_of(self.strings, self.offsets.ends(), &this)
     }
 
     /// Item `k` (from 0) of the record with the ID `id`, which is 1 to
@@ -123,9 +123,9 @@ impl<'a, A: Allocator> BtfView<'a, A> {
         requires inside { k < length (record_at self.now id).items }
         ensures { slice_get (record_at self.now id).items k ≡ Some (item_value result) }
     {
-        let file = FileSections::new(self.order, self.types, self.strings, self.places.records());
+        let file = FileSections::new(self.order, self.types, self.strings, self.offsets.records());
         let this = file.record(id);
-        item_of(self.strings, self.places.ends(), &this, k as usize)
+        item_of(self.strings, self.offsets.ends(), &this, k as usize)
     }
 }
 
@@ -133,8 +133,8 @@ impl<'a, A: Allocator> KeepsSections for BtfView<'a, A> {
     ghost denoted = { λ t. t };
 
     fn table(&self) -> SectionTable<'_> {
-        let file = FileSections::new(self.order, self.types, self.strings, self.places.records());
-        SectionTable::new(file, self.places.ends())
+        let file = FileSections::new(self.order, self.types, self.strings, self.offsets.records());
+        SectionTable::new(file, self.offsets.ends())
     }
 }
 

@@ -67,14 +67,14 @@ fn layout_of(kind: u32) -> Option<&'static Layout> {
 /// The first fault of a phase: the least by its cause, or by its offset and then by its cause.
 #[derive(Clone, Copy)]
 struct Faults {
-    by_place: bool,
+    by_offset: bool,
     first: Option<BtfFault>,
 }
 
 impl Faults {
-    fn new(by_place: bool) -> Faults {
+    fn new(by_offset: bool) -> Faults {
         Faults {
-            by_place,
+            by_offset,
             first: None,
         }
     }
@@ -82,7 +82,7 @@ impl Faults {
     /// Whether a fault comes before the first of the earlier ones.
     fn is_before(&self, pos: u64, cause: BtfCause) -> bool {
         match self.first {
-            Some(first) if self.by_place && first.pos != pos => pos < first.pos,
+            Some(first) if self.by_offset && first.pos != pos => pos < first.pos,
             Some(first) => (cause as u8) < first.cause as u8,
             None => true,
         }
@@ -142,7 +142,7 @@ impl<'a> Record<'a> {
     }
 
     /// The offset of field j in the file.
-    fn place(self, j: usize) -> u64 {
+    fn offset_of(self, j: usize) -> u64 {
         self.pos.saturating_add((j as u64).saturating_mul(4))
     }
 
@@ -304,7 +304,7 @@ fn allowed(kind: u32) -> (bool, bool, bool) {
 
 /// The faults of a record's second field, and of its length.
 fn info_faults(faults: &mut Faults, record: Record) {
-    let (info, at) = (record.word(1), record.place(1));
+    let (info, at) = (record.word(1), record.offset_of(1));
     let (is_kind, has_flag, has_vlen) = allowed(record.kind());
     let len = record.bytes.len();
     let is_cut = len >= 12 && len < record.len().saturating_mul(4);
@@ -313,14 +313,14 @@ fn info_faults(faults: &mut Faults, record: Record) {
         (!is_kind, at, BtfCause::KindNumber),
         (record.flag() && !has_flag, at, BtfCause::FlagSet),
         (record.vlen() != 0 && !has_vlen, at, BtfCause::Vlen),
-        (is_cut, record.place(3), BtfCause::TailCut),
+        (is_cut, record.offset_of(3), BtfCause::TailCut),
     ]);
 }
 
 /// The faults of a record's frame.
 fn frame_faults(faults: &mut Faults, record: Record) {
     let len = record.bytes.len();
-    faults.note(len < 12, record.place(0), BtfCause::RecordCut);
+    faults.note(len < 12, record.offset_of(0), BtfCause::RecordCut);
     if len >= 8 {
         info_faults(faults, record);
     }

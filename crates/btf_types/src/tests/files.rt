@@ -15,7 +15,7 @@ fn is_checked(rt: &impl Abort, alloc: Global, bytes: &[u8], case: &impl Debug) {
     check_parsers(rt, alloc, bytes, fault, case);
 }
 
-/// Checks it for a file with the byte at a place changed to every value, and puts the byte back.
+/// Checks it for a file with the byte at an offset changed to every value, and puts the byte back.
 fn changes_are_checked(rt: &impl Abort, alloc: Global, bytes: &mut [u8], pos: usize, old: u8) {
     for value in 0..=u8::MAX {
         change(bytes, &[(pos, value)]);

@@ -9,10 +9,10 @@ use std::alloc::{AllocError, Global};
 use std::process::Abort;
 
 /// The most bytes that a parser gets.
-const ROOM: usize = 2048;
+const CAPACITY: usize = 2048;
 
 /// How many bytes the offsets of nine records need at least, the marks of five bytes of strings, and nine records of three fields.
-const PLACES: usize = 36;
+const OFFSETS: usize = 36;
 
 const MARKS: usize = 5;
 
@@ -20,7 +20,7 @@ const TYPES: usize = 108;
 
 /// How many bytes the offset of one record and the ends of nine long strings need at least, the fields of an ENUM with nine values, and
 /// nine 128-byte strings.
-const PLACE_AND_ENDS: usize = 40;
+const OFFSETS_AND_ENDS: usize = 40;
 
 const ENUM_WORDS: usize = 84;
 
@@ -46,10 +46,10 @@ enum Outcome {
 }
 
 /// An arena with this many free bytes: the others are allocated first.
-fn arena(alloc: Global, room: usize) -> Result<Bump<Global>, AllocError> {
-    let bump = Bump::try_with_capacity(alloc, ROOM)?;
+fn arena(alloc: Global, capacity: usize) -> Result<Bump<Global>, AllocError> {
+    let bump = Bump::try_with_capacity(alloc, CAPACITY)?;
     bump.set_allocation_limit(Some(bump.allocated_bytes()));
-    let taken = bump.chunk_capacity().saturating_sub(room);
+    let taken = bump.chunk_capacity().saturating_sub(capacity);
     bump.try_alloc_slice_fill_clone(taken, 0u8)?;
     Ok(bump)
 }
@@ -152,8 +152,14 @@ fn returned<T: TypeTable>(parsed: &Result<T, BtfError>, wanted: Wanted) -> Outco
 }
 
 /// The outcome of `Btf::parse` or of `BtfView::parse` in an arena.
-fn outcome_in(alloc: Global, room: usize, owned: bool, bytes: &[u8], wanted: Wanted) -> Outcome {
-    match arena(alloc, room) {
+fn outcome_in(
+    alloc: Global,
+    capacity: usize,
+    owned: bool,
+    bytes: &[u8],
+    wanted: Wanted,
+) -> Outcome {
+    match arena(alloc, capacity) {
         Ok(bump) if owned => returned(&Btf::parse(&bump, bytes), wanted),
         Ok(bump) => returned(&BtfView::parse(&bump, bytes), wanted),
         Err(AllocError) => Outcome::Wrong,
@@ -164,26 +170,30 @@ fn outcome_in(alloc: Global, room: usize, owned: bool, bytes: &[u8], wanted: Wan
 /// outcome. It is wrong to run out of memory in a larger one.
 fn after(
     before: Result<Option<usize>, usize>,
-    room: usize,
+    capacity: usize,
     outcome: Outcome,
 ) -> Result<Option<usize>, usize> {
     match (before, outcome) {
         (Err(_), _) | (Ok(None), Outcome::Refused) | (Ok(Some(_)), Outcome::Whole) => before,
-        (Ok(None), Outcome::Whole) => Ok(Some(room)),
-        _ => Err(room),
+        (Ok(None), Outcome::Whole) => Ok(Some(capacity)),
+        _ => Err(capacity),
     }
 }
 
 /// The smallest arena that a parser needs, or that of its first wrong outcome.
-fn least_room(
+fn least_capacity(
     alloc: Global,
     owned: bool,
     bytes: &[u8],
     wanted: Wanted,
 ) -> Result<Option<usize>, usize> {
     let mut least = Ok(None);
-    for room in 0..=ROOM {
-        least = after(least, room, outcome_in(alloc, room, owned, bytes, wanted));
+    for capacity in 0..=CAPACITY {
+        least = after(
+            least,
+            capacity,
+            outcome_in(alloc, capacity, owned, bytes, wanted),
+        );
     }
     least
 }
@@ -198,32 +208,32 @@ struct Row {
 
 #[rattlefmt::skip]
 const OF_TYPEDEFS: &[Row] = &[
-    Row { edits: &[], wanted: Wanted::Typedefs, borrowed: PLACES + MARKS, owned: PLACES + MARKS + TYPES },
+    Row { edits: &[], wanted: Wanted::Typedefs, borrowed: OFFSETS + MARKS, owned: OFFSETS + MARKS + TYPES },
     Row { edits: &[(2, 2)], wanted: Wanted::Fault(2, BtfCause::Version), borrowed: 0, owned: 0 },
     Row { edits: &[(136, 1)], wanted: Wanted::Fault(136, BtfCause::LastString), borrowed: 0, owned: 0 },
-    Row { edits: &[(127, 20)], wanted: Wanted::Fault(124, BtfCause::KindNumber), borrowed: PLACES - 4, owned: PLACES - 4 },
-    Row { edits: &[(128, 10)], wanted: Wanted::Fault(128, BtfCause::Reference), borrowed: PLACES + MARKS, owned: PLACES + MARKS },
+    Row { edits: &[(127, 20)], wanted: Wanted::Fault(124, BtfCause::KindNumber), borrowed: OFFSETS - 4, owned: OFFSETS - 4 },
+    Row { edits: &[(128, 10)], wanted: Wanted::Fault(128, BtfCause::Reference), borrowed: OFFSETS + MARKS, owned: OFFSETS + MARKS },
 ];
 
 /// The ends of the long strings are found last, and only in a file without a fault.
 #[rattlefmt::skip]
 const OF_LONG_NAMES: &[Row] = &[
-    Row { edits: &[], wanted: Wanted::LongNames, borrowed: PLACE_AND_ENDS, owned: PLACE_AND_ENDS + ENUM_WORDS + LONG_STRINGS },
+    Row { edits: &[], wanted: Wanted::LongNames, borrowed: OFFSETS_AND_ENDS, owned: OFFSETS_AND_ENDS + ENUM_WORDS + LONG_STRINGS },
     Row { edits: &[(32, 3)], wanted: Wanted::Fault(32, BtfCause::Size), borrowed: 4, owned: 4 },
 ];
 
 /// Whether an arena of `least` bytes or more is the smallest that suffices. If a parser allocates nothing, none is too small.
 fn is_right(found: Result<Option<usize>, usize>, least: usize) -> bool {
     match found {
-        Ok(Some(room)) => least <= room && (least > 0 || room == 0),
+        Ok(Some(capacity)) => least <= capacity && (least > 0 || capacity == 0),
         _ => false,
     }
 }
 
 /// Gives both parsers ever more memory.
-fn check_rooms(rt: &impl Abort, alloc: Global, bytes: &[u8], row: &Row) {
-    let borrowed = least_room(alloc, false, bytes, row.wanted);
-    let owned = least_room(alloc, true, bytes, row.wanted);
+fn check_capacities(rt: &impl Abort, alloc: Global, bytes: &[u8], row: &Row) {
+    let borrowed = least_capacity(alloc, false, bytes, row.wanted);
+    let owned = least_capacity(alloc, true, bytes, row.wanted);
     let right = is_right(borrowed, row.borrowed) && is_right(owned, row.owned);
     holds(rt, right, &(row.edits, borrowed, owned));
 }
@@ -231,7 +241,7 @@ fn check_rooms(rt: &impl Abort, alloc: Global, bytes: &[u8], row: &Row) {
 /// Does so for a file with each of these changes.
 fn check_file(rt: &impl Abort, alloc: Global, file: &[u8], rows: &[Row]) {
     for row in rows {
-        check_rooms(rt, alloc, &edited(rt, alloc, file, row.edits), row);
+        check_capacities(rt, alloc, &edited(rt, alloc, file, row.edits), row);
     }
 }
 

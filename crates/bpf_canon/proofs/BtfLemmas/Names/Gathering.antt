@@ -6,7 +6,7 @@ use Rattle.btf_types.specs.{Values.TypeItem, Values.TypeRecord, tables.TableWord
 use Rattle.btf_types.specs.Names.{head_name, item_name, record_names, names, kept}
 use Rattle.btf_types.proofs.{Members.Has, Members.Contains-from_Has, StringLemmas.Texts.Has-kept}
 use Rattle.btf_types.proofs.TableLemmas.TableWalk.{take_more, records_more, has_record}
-use Rattle.bpf_canon.specs.btf.names.Interned.{IsPlaced}
+use Rattle.bpf_canon.specs.btf.names.Interned.{IsInTable}
 
 -- ---- the names of a table
 
@@ -25,11 +25,11 @@ flat_has (q ∷ v) r x (inl e) i = Has-front (record_names q) (names v) x (subst
 flat_has (q ∷ v) r x (inr h) i = Has-back (record_names q) (names v) x (flat_has v r x h i)
 
 -- a name of a table is empty or kept
-pub placed : (v : List TypeRecord) (ks : List (List ℕ)) (x : List ℕ) → ks ≡ kept (names v) → Has (names v) x → IsPlaced ks x
+pub placed : (v : List TypeRecord) (ks : List (List ℕ)) (x : List ℕ) → ks ≡ kept (names v) → Has (names v) x → IsInTable ks x
 placed v ks [] e h = inl refl
 placed v ks (b ∷ x) e h = inr (subst (λ (l : List (List ℕ)). Contains l (b ∷ x)) (sym e) (Contains-from_Has (kept (names v)) (b ∷ x) (Has-kept (names v) b x h)))
 
-pub head_placed : (v : List TypeRecord) (ks : List (List ℕ)) (id : ℕ) → 0 < id → id ≤ length v → ks ≡ kept (names v) → IsPlaced ks (head_name (record_at v id).head)
+pub head_placed : (v : List TypeRecord) (ks : List (List ℕ)) (id : ℕ) → 0 < id → id ≤ length v → ks ≡ kept (names v) → IsInTable ks (head_name (record_at v id).head)
 head_placed v ks id some low e =
     let r = record_at v id in
     placed v ks (head_name r.head) e (flat_has v r (head_name r.head) (has_record v id some low) (inl refl))
@@ -40,7 +40,7 @@ item_has (y ∷ ys) zero x e = let same : y ≡ x = cc in inl (ap item_name same
 item_has (y ∷ ys) (suc k) x e = inr (item_has ys k x e)
 
 pub item_placed : (v : List TypeRecord) (ks : List (List ℕ)) (id k : ℕ) (x : TypeItem) → 0 < id → id ≤ length v → ks ≡ kept (names v) → slice_get (record_at v id).items k ≡ Some x
-    → IsPlaced ks (item_name x)
+    → IsInTable ks (item_name x)
 item_placed v ks id k x some low e is =
     let r = record_at v id in
     placed v ks (item_name x) e (flat_has v r (item_name x) (has_record v id some low) (inr (item_has r.items k x is)))

@@ -78,8 +78,8 @@ if_some n v h = grind (arith, nat_tests)
 
 -- the offset of a name, at the end of its host
 offset_at_host : (ks : List (List ℕ)) (x h : List ℕ) (n b : ℕ) → 0 < length x → host_in (hosts_of ks) x ≡ h → n ≡ offset_within (hosts_of ks) h → b + length x ≡ length h → n + b ≡ shared_among ks x
-offset_at_host ks [] h n b some is place before = absurd (omega (arith, some))
-offset_at_host ks (c ∷ bytes) h n b some is place before = grind arith
+offset_at_host ks [] h n b some is text_offset before = absurd (omega (arith, some))
+offset_at_host ks (c ∷ bytes) h n b some is text_offset before = grind arith
 
 module _ (section slots offsets by_rank : List ℕ) (sorted : List (List ℕ)) (in_hosts : List InHost) (spans : List Span) (len : ℕ) (host_offsets : AreHostOffsets section sorted (map (text_from section) offsets) by_rank spans len)
     (off : ℕ) (c : Contains offsets off) (is : HasHost section slots sorted (map (text_from section) offsets) in_hosts off) where
@@ -101,8 +101,8 @@ module _ (section slots offsets by_rank : List ℕ) (sorted : List (List ℕ)) (
   there : (b : get_or section off 0 ≢ 0) → Has (hosts names) (at_rank sorted (is.some b).rank)
   there b = host_there sorted names x h (is.some b) has (some b)
 
-  place_is : (b : get_or section off 0 ≢ 0) → get_or by_rank h.host 0 ≡ offset_within (hosts names) (at_rank sorted (is.some b).rank)
-  place_is b = grind (arith, Contains-from_Has, there)
+  text_offset_is : (b : get_or section off 0 ≢ 0) → get_or by_rank h.host 0 ≡ offset_within (hosts names) (at_rank sorted (is.some b).rank)
+  text_offset_is b = grind (arith, Contains-from_Has, there)
 
   pub host_ranked : 0 < h.len → h.host < length by_rank
   host_ranked long = elim (cases_eq (get_or section off 0) 0) [
@@ -117,13 +117,13 @@ module _ (section slots offsets by_rank : List ℕ) (sorted : List (List ℕ)) (
   pub place_fits : length (shared_table names) < 2 ^ 32 → new_name_offset by_rank h < 2 ^ 32
   place_fits room = elim (cases_eq (get_or section off 0) 0) [
     | inl z ↦ omega (arith, ap (new_name_offset by_rank) (is.empty z))
-    | inr b ↦ let a = is.some b in omega (arith, placed_at b, place_is b, a.before, offset_room (hosts names) (at_rank sorted a.rank) (there b), room)
+    | inr b ↦ let a = is.some b in omega (arith, placed_at b, text_offset_is b, a.before, offset_room (hosts names) (at_rank sorted a.rank) (there b), room)
   ]
 
   pub offset_found : new_name_offset by_rank h ≡ shared_offset names x
   offset_found = elim (cases_eq (get_or section off 0) 0) [
     | inl z ↦ grind (arith, common_steps)
-    | inr b ↦ let a = is.some b in placed_at b ∙ offset_at_host (kept names) x (at_rank sorted a.rank) (get_or by_rank h.host 0) h.before (some b) a.is_host (place_is b) a.before
+    | inr b ↦ let a = is.some b in placed_at b ∙ offset_at_host (kept names) x (at_rank sorted a.rank) (get_or by_rank h.host 0) h.before (some b) a.is_host (text_offset_is b) a.before
   ]
 
 -- all of it together
@@ -148,7 +148,7 @@ module _ {A : Type 0} (used : Used) (r : RankedTexts A) (in_hosts : List InHost)
   all_placed = record {
     marked = marked.marked;
     numbers = length-map in_hosts (new_name_offset h.by_rank.items) ∙ hosts_are.whole;
-    place = λ off c.
+    text_offset = λ off c.
         let inside : offset_number used.slots off < length in_hosts = omega (arith, number_inside used.slots off (marked.marked off c), hosts_are.whole) in
         get_or-map (new_name_offset h.by_rank.items) in_hosts (offset_number used.slots off) no_host 0 inside
         ∙ offset_found r.section.now used.slots used.offsets h.by_rank.items (sorted_in r) in_hosts h.spans.items h.len host_offsets off c (at off c);

@@ -47,7 +47,7 @@ pub record LaidTo (section : List ℕ) (sorted out : List (List ℕ)) (by_rank :
   pub ranks : length by_rank ≡ length sorted
   pub absent : (r : ℕ) → IsLast sorted r → get_or by_rank r 0 ≡ 0 → ¬ Has out (at_rank sorted r)
   pub there : (r : ℕ) → IsLast sorted r → get_or by_rank r 0 ≢ 0 → Has out (at_rank sorted r)
-  pub place : (r : ℕ) → IsLast sorted r → get_or by_rank r 0 ≢ 0 → get_or by_rank r 0 ≡ offset_within out (at_rank sorted r)
+  pub text_offset : (r : ℕ) → IsLast sorted r → get_or by_rank r 0 ≢ 0 → get_or by_rank r 0 ≡ offset_within out (at_rank sorted r)
 
 pub lays_one : (section : List ℕ) (sorted out : List (List ℕ)) (by_rank : List ℕ) (spans new : List Span) (len r : ℕ) (s : Span) → LaidTo section sorted out by_rank spans len → IsSorted suffix_cmp sorted → IsLast sorted r → get_or by_rank r 0 ≡ 0
     → HasText section spans new s → span_bytes section s ≡ with_nul (at_rank sorted r) → LaidTo section sorted (out ++ at_rank sorted r ∷ []) (set by_rank r len) new (len + (length (at_rank sorted r) + 1))
@@ -72,7 +72,7 @@ lays_one section sorted out by_rank spans new len r s to up at empty more text =
             ]
       ];
       there = grind (arith, Has-back, Has-front);
-      place = λ k a z. elim (cases_eq k r) [
+      text_offset = λ k a z. elim (cases_eq k r) [
         | inl e ↦
             ap (λ (n : ℕ). get_or (set by_rank r len) n 0) e ∙ here ∙ to.whole ∙ sym (offset_last out x gone)
             ∙ ap (λ (m : ℕ). offset_within (out ++ x ∷ []) (at_rank sorted m)) (sym e)

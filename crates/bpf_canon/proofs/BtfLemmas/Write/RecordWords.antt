@@ -23,10 +23,10 @@ use Rattle.bpf_canon.proofs.BtfLemmas.Write.{RecordNames.HasNamedItems, RecordNa
 
 -- the 32-bit words of a record's items, and all after the third
 abbrev record_items : (List ℕ → ℕ) → TypeRecord → List ℕ
-record_items place r = flat_map (words_of place) r.items
+record_items text_offset r = flat_map (words_of text_offset) r.items
 
 abbrev pub record_tail : (List ℕ → ℕ) → TypeRecord → List ℕ
-record_tail place r = head_tail r.head ++ record_items place r
+record_tail text_offset r = head_tail r.head ++ record_items text_offset r
 
 -- ---- whether a record has bit-fields
 
@@ -130,31 +130,31 @@ unmarked_record strings f frame none = unmarked strings f frame (item_total f) n
 
 -- ---- items that have names
 
-named_item : {k : ℕ} → KindIs k → (place : List ℕ → ℕ) (name : List ℕ) (flag a b c : ℕ) → has_item_names k ≡ true → b < 2 ^ 32
-    → words_of place (item_from name k flag a b c) ≡ take (item_words k) (place name ∷ b ∷ c ∷ [])
+named_item : {k : ℕ} → KindIs k → (text_offset : List ℕ → ℕ) (name : List ℕ) (flag a b c : ℕ) → has_item_names k ≡ true → b < 2 ^ 32
+    → words_of text_offset (item_from name k flag a b c) ≡ take (item_words k) (text_offset name ∷ b ∷ c ∷ [])
 unfolding has_item_names item_words item_from
-named_item kind_is place name flag a b c has low = grind arith
+named_item kind_is text_offset name flag a b c has low = grind arith
 
 -- the bytes of one item more
-item_more : (o : Order) (old : List ℕ) (place : List ℕ → ℕ) (item : ℕ → TypeItem) (k : ℕ) (ws : List ℕ) → words_of place (item k) ≡ ws
-    → (old ++ bytes_of o (flat_map (words_of place) (tabulate item k))) ++ bytes_of o ws ≡ old ++ bytes_of o (flat_map (words_of place) (tabulate item (k + 1)))
-item_more o old place item k ws e = grind (arith, flat_map-append, pushed_two)
+item_more : (o : Order) (old : List ℕ) (text_offset : List ℕ → ℕ) (item : ℕ → TypeItem) (k : ℕ) (ws : List ℕ) → words_of text_offset (item k) ≡ ws
+    → (old ++ bytes_of o (flat_map (words_of text_offset) (tabulate item k))) ++ bytes_of o ws ≡ old ++ bytes_of o (flat_map (words_of text_offset) (tabulate item (k + 1)))
+item_more o old text_offset item k ws e = grind (arith, flat_map-append, pushed_two)
 
 abbrev pub items_to : (List ℕ → ℕ) → List ℕ → List ℕ → ℕ → List ℕ
-items_to place strings f k = flat_map (words_of place) (tabulate (item_in strings f) k)
+items_to text_offset strings f k = flat_map (words_of text_offset) (tabulate (item_in strings f) k)
 
-pub named_item_more : (o : Order) (old : List ℕ) (place : List ℕ → ℕ) (strings f : List ℕ) (size count k offset at b c : ℕ) → IsFrame f → HasNamedItems f size count
-    → offset ≡ slice_index f (3 + size * k) → at ≡ place (text_from strings offset) → b ≡ slice_index f (4 + size * k) → c ≡ slice_index f (5 + size * k)
-    → (old ++ bytes_of o (items_to place strings f k)) ++ bytes_of o (take size (at ∷ b ∷ c ∷ [])) ≡ old ++ bytes_of o (items_to place strings f (k + 1))
-named_item_more o old place strings f size count k offset at b c frame items offset_is at_is b_is c_is =
+pub named_item_more : (o : Order) (old : List ℕ) (text_offset : List ℕ → ℕ) (strings f : List ℕ) (size count k offset at b c : ℕ) → IsFrame f → HasNamedItems f size count
+    → offset ≡ slice_index f (3 + size * k) → at ≡ text_offset (text_from strings offset) → b ≡ slice_index f (4 + size * k) → c ≡ slice_index f (5 + size * k)
+    → (old ++ bytes_of o (items_to text_offset strings f k)) ++ bytes_of o (take size (at ∷ b ∷ c ∷ [])) ≡ old ++ bytes_of o (items_to text_offset strings f (k + 1))
+named_item_more o old text_offset strings f size count k offset at b c frame items offset_is at_is b_is c_is =
     let j : 3 + item_words (kind f) * k ≡ 3 + size * k = rw items.words refl in
     let second : 3 + size * k + 1 ≡ 4 + size * k = omega arith in
     let third : 3 + size * k + 2 ≡ 5 + size * k = omega arith in
     let its : item_in strings f k ≡ item_from (text_from strings offset) (kind f) (flag f) offset b c = rw (j, second, third, offset_is, b_is, c_is) refl in
     let low : b < 2 ^ 32 = rw b_is (frame.words (4 + size * k)) in
-    item_more o old place (item_in strings f) k (take size (at ∷ b ∷ c ∷ []))
-    (ap (words_of place) its ∙ named_item (known f frame) place (text_from strings offset) (flag f) offset b c items.named low
-    ∙ ap (λ (n : ℕ). take n (place (text_from strings offset) ∷ b ∷ c ∷ [])) items.words ∙ ap (λ (p : ℕ). take size (p ∷ b ∷ c ∷ [])) (sym at_is))
+    item_more o old text_offset (item_in strings f) k (take size (at ∷ b ∷ c ∷ []))
+    (ap (words_of text_offset) its ∙ named_item (known f frame) text_offset (text_from strings offset) (flag f) offset b c items.named low
+    ∙ ap (λ (n : ℕ). take n (text_offset (text_from strings offset) ∷ b ∷ c ∷ [])) items.words ∙ ap (λ (p : ℕ). take size (p ∷ b ∷ c ∷ [])) (sym at_is))
 
 -- ---- the rest after the third word, if items have no names
 
@@ -171,19 +171,19 @@ entry_read IsFuncProto name flag a b c none = absurd cc
 entry_read IsEnum64 name flag a b c none = absurd cc
 entry_read known name flag a b c none = tt
 
-entries_words : (place : List ℕ → ℕ) (strings : List ℕ) (flag : ℕ) (xs : List TypeItem) (wss : List (List ℕ)) → All IsEntry xs → AllZip (ItemEncodes strings flag) xs wss
-    → concat wss ≡ flat_map (words_of place) xs
-entries_words place strings flag [] [] is s = refl
-entries_words place strings flag [] (ws ∷ wss) is s = absurd s
-entries_words place strings flag (x ∷ xs) [] is s = absurd s
-entries_words place strings flag (x ∷ xs) (ws ∷ wss) is s = grind (arith, All-head, (entries_words place strings flag xs wss (All-tail IsEntry x xs is) s.1))
+entries_words : (text_offset : List ℕ → ℕ) (strings : List ℕ) (flag : ℕ) (xs : List TypeItem) (wss : List (List ℕ)) → All IsEntry xs → AllZip (ItemEncodes strings flag) xs wss
+    → concat wss ≡ flat_map (words_of text_offset) xs
+entries_words text_offset strings flag [] [] is s = refl
+entries_words text_offset strings flag [] (ws ∷ wss) is s = absurd s
+entries_words text_offset strings flag (x ∷ xs) [] is s = absurd s
+entries_words text_offset strings flag (x ∷ xs) (ws ∷ wss) is s = grind (arith, All-head, (entries_words text_offset strings flag xs wss (All-tail IsEntry x xs is) s.1))
 
-pub rest_words : (place : List ℕ → ℕ) (strings f : List ℕ) → IsFrame f → Encodes strings (record_of strings f) f → has_item_names (kind f) ≡ false
-    → drop 3 f ≡ record_tail place (record_of strings f)
-rest_words place strings f frame s none =
+pub rest_words : (text_offset : List ℕ → ℕ) (strings f : List ℕ) → IsFrame f → Encodes strings (record_of strings f) f → has_item_names (kind f) ≡ false
+    → drop 3 f ≡ record_tail text_offset (record_of strings f)
+rest_words text_offset strings f frame s none =
     let r = record_of strings f in
     let entries : All IsEntry r.items = All-tabulate IsEntry (item_in strings f) (item_total f) (λ k low. entry_read (known f frame) _ (flag f) _ _ _ none) in
-    ap (drop 3) s.whole ∙ ap (λ (t : List ℕ). head_tail r.head ++ t) (entries_words place strings s.flag r.items s.item_words entries s.items)
+    ap (drop 3) s.whole ∙ ap (λ (t : List ℕ). head_tail r.head ++ t) (entries_words text_offset strings s.flag r.items s.item_words entries s.items)
 
 pub rest_more : (o : Order) (old f : List ℕ) (k w : ℕ) → 3 + k < length f → w ≡ slice_index f (3 + k)
     → (old ++ bytes_of o (take k (drop 3 f))) ++ word32 o w ≡ old ++ bytes_of o (take (k + 1) (drop 3 f))
@@ -199,32 +199,32 @@ no_tail : {k : ℕ} → KindIs k → (name : List ℕ) (third flag vlen next fou
 unfolding has_item_names head_from
 no_tail kind_is name third flag vlen next fourth fifth has = search rules
 
-pub items_are_tail : (place : List ℕ → ℕ) (strings f : List ℕ) → IsFrame f → has_item_names (kind f) ≡ true
-    → record_items place (record_of strings f) ≡ record_tail place (record_of strings f)
-items_are_tail place strings f frame has = grind (arith, no_tail, known)
+pub items_are_tail : (text_offset : List ℕ → ℕ) (strings f : List ℕ) → IsFrame f → has_item_names (kind f) ≡ true
+    → record_items text_offset (record_of strings f) ≡ record_tail text_offset (record_of strings f)
+items_are_tail text_offset strings f frame has = grind (arith, no_tail, known)
 
 -- the first three words, and what follows them
-pub record_pushed : (o : Order) (old : List ℕ) (place : List ℕ → ℕ) (strings f : List ℕ) (at info third : ℕ) → HasNulEnds strings → Encodes strings (record_of strings f) f
-    → at ≡ place (text_from strings (name_word f)) → info ≡ record_info (record_of strings f) → third ≡ third_word f
-    → (old ++ bytes_of o (at ∷ info ∷ third ∷ [])) ++ bytes_of o (record_tail place (record_of strings f)) ≡ old ++ bytes_of o (record_words place (record_of strings f))
-record_pushed o old place strings f at info third ends s ate ie te =
+pub record_pushed : (o : Order) (old : List ℕ) (text_offset : List ℕ → ℕ) (strings f : List ℕ) (at info third : ℕ) → HasNulEnds strings → Encodes strings (record_of strings f) f
+    → at ≡ text_offset (text_from strings (name_word f)) → info ≡ record_info (record_of strings f) → third ≡ third_word f
+    → (old ++ bytes_of o (at ∷ info ∷ third ∷ [])) ++ bytes_of o (record_tail text_offset (record_of strings f)) ≡ old ++ bytes_of o (record_words text_offset (record_of strings f))
+record_pushed o old text_offset strings f at info third ends s ate ie te =
     let r = record_of strings f in
-    let name : at ≡ place (head_name r.head) = ate ∙ ap place (sym (head_name_is strings r f ends s)) in
+    let name : at ≡ text_offset (head_name r.head) = ate ∙ ap text_offset (sym (head_name_is strings r f ends s)) in
     let size : third ≡ head_third r.head = te ∙ ap (λ (t : List ℕ). slice_index t 2) s.whole in
     grind (arith, common_steps)
 
 -- ---- all records
 
-pub record_more : (to : Order) (place : List ℕ → ℕ) (strings : List ℕ) (frames : List (List ℕ)) (i : ℕ) (frame : List ℕ) → slice_get frames (i + 1 - 1) ≡ Some frame
-    → section_of to (map (record_words place) (map (record_of strings) (take i frames))) ++ bytes_of to (record_words place (record_of strings frame))
-    ≡ section_of to (map (record_words place) (map (record_of strings) (take (i + 1) frames)))
-record_more to place strings frames i frame is =
-    let words : List (List ℕ) → List (List ℕ) = λ fs. map (record_words place) (map (record_of strings) fs) in
+pub record_more : (to : Order) (text_offset : List ℕ → ℕ) (strings : List ℕ) (frames : List (List ℕ)) (i : ℕ) (frame : List ℕ) → slice_get frames (i + 1 - 1) ≡ Some frame
+    → section_of to (map (record_words text_offset) (map (record_of strings) (take i frames))) ++ bytes_of to (record_words text_offset (record_of strings frame))
+    ≡ section_of to (map (record_words text_offset) (map (record_of strings) (take (i + 1) frames)))
+record_more to text_offset strings frames i frame is =
+    let words : List (List ℕ) → List (List ℕ) = λ fs. map (record_words text_offset) (map (record_of strings) fs) in
     let before = take i frames in
-    let more : words (before ++ frame ∷ []) ≡ words before ++ record_words place (record_of strings frame) ∷ [] = grind (arith, map-append) in
+    let more : words (before ++ frame ∷ []) ≡ words before ++ record_words text_offset (record_of strings frame) ∷ [] = grind (arith, map-append) in
     sym (ap (λ (fs : List (List ℕ)). section_of to (words fs)) (one_more frames i frame is) ∙ ap (section_of to) more
-    ∙ flat_map-append (bytes_of to) (words before) (record_words place (record_of strings frame) ∷ [])
-    ∙ ap (λ (t : List ℕ). section_of to (words before) ++ t) (append-nil (bytes_of to (record_words place (record_of strings frame)))))
+    ∙ flat_map-append (bytes_of to) (words before) (record_words text_offset (record_of strings frame) ∷ [])
+    ∙ ap (λ (t : List ℕ). section_of to (words before) ++ t) (append-nil (bytes_of to (record_words text_offset (record_of strings frame)))))
 
 -- ---- capacity
 

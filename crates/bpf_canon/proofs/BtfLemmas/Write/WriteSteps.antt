@@ -23,22 +23,22 @@ pushed_two o old xs ys = append_assoc old (bytes_of o xs) (bytes_of o ys) ∙ ap
 
 -- ---- records
 
-pub item_pushed : (o : Order) (old : List ℕ) (place : List ℕ → ℕ) (xs : List TypeItem) (k : ℕ) (x : TypeItem) → slice_get xs k ≡ Some x
-    → (old ++ bytes_of o (flat_map (words_of_item place) (take k xs))) ++ bytes_of o (words_of_item place x) ≡ old ++ bytes_of o (flat_map (words_of_item place) (take (k + 1) xs))
-item_pushed o old place xs k x e =
-    let f = words_of_item place in
+pub item_pushed : (o : Order) (old : List ℕ) (text_offset : List ℕ → ℕ) (xs : List TypeItem) (k : ℕ) (x : TypeItem) → slice_get xs k ≡ Some x
+    → (old ++ bytes_of o (flat_map (words_of_item text_offset) (take k xs))) ++ bytes_of o (words_of_item text_offset x) ≡ old ++ bytes_of o (flat_map (words_of_item text_offset) (take (k + 1) xs))
+item_pushed o old text_offset xs k x e =
+    let f = words_of_item text_offset in
     let next : k + 1 ≡ suc k = omega arith in
     let more : take (k + 1) xs ≡ take k xs ++ x ∷ [] = rw next (take_more xs k x e) in
     let words : flat_map f (take (k + 1) xs) ≡ flat_map f (take k xs) ++ f x = grind (arith, flat_map-append) in
     pushed_two o old (flat_map f (take k xs)) (f x) ∙ ap (λ (t : List ℕ). old ++ bytes_of o t) (sym words)
 
-pub record_pushed : (o : Order) (old : List ℕ) (place : List ℕ → ℕ) (r : TypeRecord) (count : ℕ) → count ≡ length r.items
-    → (old ++ bytes_of o (head_words place r.head count (has_bit_fields r))) ++ bytes_of o (flat_map (words_of_item place) r.items) ≡ old ++ bytes_of o (record_words place r)
-record_pushed o old place r count e = grind (arith, common_steps)
+pub record_pushed : (o : Order) (old : List ℕ) (text_offset : List ℕ → ℕ) (r : TypeRecord) (count : ℕ) → count ≡ length r.items
+    → (old ++ bytes_of o (head_words text_offset r.head count (has_bit_fields r))) ++ bytes_of o (flat_map (words_of_item text_offset) r.items) ≡ old ++ bytes_of o (record_words text_offset r)
+record_pushed o old text_offset r count e = grind (arith, common_steps)
 
-pub section_pushed : (o : Order) (place : List ℕ → ℕ) (v : List TypeRecord) (i : ℕ) → i < length v
-    → section_of o (map (record_words place) (take i v)) ++ bytes_of o (record_words place (record_at v (i + 1))) ≡ section_of o (map (record_words place) (take (i + 1) v))
-section_pushed o place v i h = grind (arith, records_more, map-append, flat_map-append, append-nil)
+pub section_pushed : (o : Order) (text_offset : List ℕ → ℕ) (v : List TypeRecord) (i : ℕ) → i < length v
+    → section_of o (map (record_words text_offset) (take i v)) ++ bytes_of o (record_words text_offset (record_at v (i + 1))) ≡ section_of o (map (record_words text_offset) (take (i + 1) v))
+section_pushed o text_offset v i h = grind (arith, records_more, map-append, flat_map-append, append-nil)
 
 -- ---- what is known of a record of a table
 

@@ -17,8 +17,8 @@ abbrev pub AddsNames : List (List ℕ) → List (List ℕ) → List (List ℕ) �
 AddsNames old new names = (xs : List (List ℕ)) → old ≡ kept xs → new ≡ kept (xs ++ names)
 
 -- the name is empty, or one of the kept names
-abbrev pub IsPlaced : List (List ℕ) → List ℕ → Type 0
-IsPlaced names x = (x ≡ []) ⊎ Contains names x
+abbrev pub IsInTable : List (List ℕ) → List ℕ → Type 0
+IsInTable names x = (x ≡ []) ⊎ Contains names x
 
 -- the name of an index
 abbrev pub name_at : List (List ℕ) → ℕ → List ℕ
@@ -39,14 +39,14 @@ pub record HaveHosts (ks : List (List ℕ)) (host_indices : List ℕ) : Type 0 w
   pub each : (i : ℕ) → i < length ks → name_at ks (slice_index host_indices i) ≡ host_in (hosts_of ks) (name_at ks i)
 
 -- each name that is its own host has its offset in their table, which has this length
-pub record ArePlacedHosts (ks : List (List ℕ)) (host_indices places : List ℕ) (table_len : ℕ) : Type 0 where
-  pub whole : length places ≡ length ks
-  pub each : (i : ℕ) → i < length ks → slice_index host_indices i ≡ i → slice_index places i ≡ offset_within (hosts_of ks) (name_at ks i)
+pub record ArePlacedHosts (ks : List (List ℕ)) (host_indices text_offsets : List ℕ) (table_len : ℕ) : Type 0 where
+  pub whole : length text_offsets ≡ length ks
+  pub each : (i : ℕ) → i < length ks → slice_index host_indices i ≡ i → slice_index text_offsets i ≡ offset_within (hosts_of ks) (name_at ks i)
   pub long : table_len ≡ length (table_of (hosts_of ks))
 
 -- What is stored for the kept names: the host of each, and the offset of each host.
-pub record AreShared (ks : List (List ℕ)) (host_indices places : List ℕ) (table_len : ℕ) : Type 0 where
+pub record AreShared (ks : List (List ℕ)) (host_indices text_offsets : List ℕ) (table_len : ℕ) : Type 0 where
   pub own : kept ks ≡ ks
   pub have_hosts : HaveHosts ks host_indices
-  pub are_placed : ArePlacedHosts ks host_indices places table_len
-  pub room : table_len < 2 ^ 32
+  pub are_placed : ArePlacedHosts ks host_indices text_offsets table_len
+  pub capacity : table_len < 2 ^ 32

@@ -7,40 +7,40 @@ use Rattle.bpf_canon.specs.btf.strings.UsedOffsets.{Used, number_of, used_count}
 use Rattle.bpf_canon.specs.declared.btf.strings.distinct_offsets.NameTable.{NameTable}
 
 -- offsets by strings, which are sorted by their lengths first
-abbrev pub Places : Type 0
-Places = BTreeMap (ℕ × Bor (List ℕ)) ℕ
+abbrev pub OffsetsByText : Type 0
+OffsetsByText = BTreeMap (ℕ × Bor (List ℕ)) ℕ
 
 -- the offset that such a map has for a string
-abbrev pub offset_for : Places → List ℕ → Option ℕ
+abbrev pub offset_for : OffsetsByText → List ℕ → Option ℕ
 offset_for by_text x = get_by (λ key. ordering_then (nat_cmp (length x) key.0) (slice_cmp nat_cmp x key.1.now)) by_text
 
 -- The bytes are the table of these strings, and the map has the offset of each in it.
-pub record IsTableOf (ks : List (List ℕ)) (bytes : List ℕ) (by_text : Places) : Type 0 where
+pub record IsTableOf (ks : List (List ℕ)) (bytes : List ℕ) (by_text : OffsetsByText) : Type 0 where
   pub bytes_are : bytes ≡ table_of ks
   pub there : (x : List ℕ) → Contains ks x → offset_for by_text x ≡ Some (offset_within ks x)
   pub absent : (x : List ℕ) → ¬ Contains ks x → offset_for by_text x ≡ None
 
 -- the table of the names xs, within the limit, and the offset of the name x in it
-pub record HasOffset (xs : List (List ℕ)) (bytes : List ℕ) (by_text : Places) (x : List ℕ) (limit place : ℕ) : Type 0 where
+pub record HasOffset (xs : List (List ℕ)) (bytes : List ℕ) (by_text : OffsetsByText) (x : List ℕ) (limit text_offset : ℕ) : Type 0 where
   pub table : IsTableOf (kept xs) bytes by_text
   pub within : length bytes ≤ limit
-  pub place_is : place ≡ distinct_offset xs x
+  pub text_offset_is : text_offset ≡ distinct_offset xs x
 
 -- From the table of some names, the new one is that with the name x too, unless it would be longer than the limit.
-abbrev pub AddsName : List ℕ → Places → List ℕ → Places → List ℕ → ℕ → Option ℕ → Type 0
-AddsName old old_offsets new new_offsets x limit place =
+abbrev pub AddsName : List ℕ → OffsetsByText → List ℕ → OffsetsByText → List ℕ → ℕ → Option ℕ → Type 0
+AddsName old old_offsets new new_offsets x limit text_offset =
     (xs : List (List ℕ)) → IsTableOf (kept xs) old old_offsets
-    → MatchOption place (limit < length (distinct_table (xs ++ x ∷ []))) (HasOffset (xs ++ x ∷ []) new new_offsets x limit)
+    → MatchOption text_offset (limit < length (distinct_table (xs ++ x ∷ []))) (HasOffset (xs ++ x ∷ []) new new_offsets x limit)
 
 -- Each used name has, by the number of its old offset, its offset in the table of all.
-pub record AreDistinct (section : List ℕ) (used : Used) (places bytes : List ℕ) : Type 0 where
+pub record AreDistinct (section : List ℕ) (used : Used) (text_offsets bytes : List ℕ) : Type 0 where
   pub marked : (off : ℕ) → Contains used.offsets off → slice_index used.slots off ≢ 0
-  pub numbers : length places ≡ used_count used
-  pub place : (off : ℕ) → Contains used.offsets off → slice_index places (number_of used off) ≡ distinct_offset (map (text_from section) used.offsets) (text_from section off)
+  pub numbers : length text_offsets ≡ used_count used
+  pub text_offset : (off : ℕ) → Contains used.offsets off → slice_index text_offsets (number_of used off) ≡ distinct_offset (map (text_from section) used.offsets) (text_from section off)
   pub bytes_are : bytes ≡ distinct_table (map (text_from section) used.offsets)
   pub fits : length bytes < 2 ^ 32
 
 -- the same of the struct, with a table within the limit
 pub record IsTableWithin {A : Type 0} (section : List ℕ) (used : Used) (limit : ℕ) (t : NameTable A) : Type 0 where
-  pub are_distinct : AreDistinct section used t.places.items t.bytes.items
+  pub are_distinct : AreDistinct section used t.text_offsets.items t.bytes.items
   pub within : length t.bytes.items ≤ limit

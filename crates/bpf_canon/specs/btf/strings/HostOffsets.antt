@@ -49,7 +49,7 @@ pub record AreHostOffsets (section : List ℕ) (sorted xs : List (List ℕ)) (by
   pub texts : flat_map (span_bytes section) spans ≡ flat_map with_nul (hosts xs)
   pub whole : len ≡ length (shared_table xs)
   pub ranks : length by_rank ≡ length sorted
-  pub place : (r : ℕ) → r < length sorted → (r + 1 < length sorted → is_suffix (at_rank sorted r) (at_rank sorted (r + 1)) ≡ false) → Contains (hosts xs) (at_rank sorted r) → slice_index by_rank r ≡ offset_within (hosts xs) (at_rank sorted r)
+  pub text_offset : (r : ℕ) → r < length sorted → (r + 1 < length sorted → is_suffix (at_rank sorted r) (at_rank sorted (r + 1)) ≡ false) → Contains (hosts xs) (at_rank sorted r) → slice_index by_rank r ≡ offset_within (hosts xs) (at_rank sorted r)
 
 -- The same, stated of the structs: each used name has its host, and each host has its offset.
 abbrev pub names_in : {A : Type 0} → RankedTexts A → Used → List (List ℕ)
@@ -66,10 +66,10 @@ abbrev pub new_name_offset : List ℕ → InHost → ℕ
 new_name_offset by_rank at = if nat_eq at.len 0 then 0 else slice_index by_rank at.host + at.before
 
 -- Each used name has, by the number of its old offset, its offset in the shared table, whose contents are the hosts.
-pub record ArePlaced (section : List ℕ) (used : Used) (places : List ℕ) (spans : List Span) (len : ℕ) : Type 0 where
+pub record ArePlaced (section : List ℕ) (used : Used) (text_offsets : List ℕ) (spans : List Span) (len : ℕ) : Type 0 where
   pub marked : (off : ℕ) → Contains used.offsets off → slice_index used.slots off ≢ 0
-  pub numbers : length places ≡ used_count used
-  pub place : (off : ℕ) → Contains used.offsets off → slice_index places (number_of used off) ≡ shared_offset (map (text_from section) used.offsets) (text_from section off)
+  pub numbers : length text_offsets ≡ used_count used
+  pub text_offset : (off : ℕ) → Contains used.offsets off → slice_index text_offsets (number_of used off) ≡ shared_offset (map (text_from section) used.offsets) (text_from section off)
   pub are_spans : All (IsSpan section) spans
   pub texts : flat_map (span_bytes section) spans ≡ flat_map with_nul (hosts (map (text_from section) used.offsets))
   pub whole : len ≡ length (shared_table (map (text_from section) used.offsets))

@@ -8,5 +8,5 @@ pub record NamesByOffset : Type 0 where
   pub offsets : List ℕ
 
 -- the names at these offsets
-abbrev pub placed_texts : NamesByOffset → List (List ℕ)
-placed_texts n = map (text_from n.strings) n.offsets
+abbrev pub texts_by_offset : NamesByOffset → List (List ℕ)
+texts_by_offset n = map (text_from n.strings) n.offsets

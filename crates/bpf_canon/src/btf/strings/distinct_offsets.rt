@@ -12,7 +12,7 @@ ghost use Rattle.std.specs.Prelude.{◌↔◌, IfSome, IsSome, MatchOption};
 ghost use Rattle.std.specs.{List.Contains};
 ghost use Rattle.btf_raw.specs.Header.{HasNulEnds};
 ghost use Rattle.btf_types.specs.Reading.{text_from};
-ghost use Rattle.bpf_canon.specs.btf.strings.{FirstUses.AreMarked, NamesByOffset.placed_texts};
+ghost use Rattle.bpf_canon.specs.btf.strings.{FirstUses.AreMarked, NamesByOffset.texts_by_offset};
 ghost use Rattle.bpf_canon.specs.btf.strings.DistinctNames.{distinct_table, distinct_offset};
 ghost use Rattle.bpf_canon.specs.btf.strings.DistinctOffsets as spec;
 
@@ -27,7 +27,7 @@ use std::marker::Model;
 #[derive(Drop)]
 struct NameTable<A: Allocator> {
     bytes: Vec<u8, A>,
-    places: Vec<u32, A>,
+    text_offsets: Vec<u32, A>,
 }
 
 /// The offset of a string in a table. If the table doesn't have it yet, it is appended with its
@@ -46,17 +46,17 @@ fn add_text<'a, A: Allocator + Copy>(
         return Ok(Some(0));
     }
     let key = (text.len(), text);
-    if let Some(place) = by_text.get(&key) {
-        return Ok(Some(*place));
+    if let Some(text_offset) = by_text.get(&key) {
+        return Ok(Some(*text_offset));
     }
-    let place = bytes.len() as u32;
-    if text.len() >= (limit - place) as usize {
+    let text_offset = bytes.len() as u32;
+    if text.len() >= (limit - text_offset) as usize {
         return Ok(None);
     }
-    by_text.insert(key, place)?;
+    by_text.insert(key, text_offset)?;
     bytes.extend_from_slice(text)?;
     bytes.push(0)?;
-    Ok(Some(place))
+    Ok(Some(text_offset))
 }
 
 /// The table of the names at the used offsets, or `None` if it would be longer than `limit`.
@@ -78,15 +78,18 @@ fn name_table<A: Allocator + Copy>(
     }
     let mut bytes = vec![in alloc; 0; 1]?;
     let mut by_text = BTreeMap::new(alloc);
-    let mut places = vec![in alloc; 0; used.count()]?;
+    let mut text_offsets = vec![in alloc; 0; used.count()]?;
     for off in used.offsets() {
         let text = text_at(strings, *off as usize);
-        let Some(place) = add_text(&mut bytes, &mut by_text, text, limit)? else {
+        let Some(text_offset) = add_text(&mut bytes, &mut by_text, text, limit)? else {
             return Ok(None);
         };
-        places[used.number(*off as usize)] = place;
+        text_offsets[used.number(*off as usize)] = text_offset;
     }
-    Ok(Some(NameTable { bytes, places }))
+    Ok(Some(NameTable {
+        bytes,
+        text_offsets,
+    }))
 }
 
 /// The new offsets of the names of a string section, in a table in which no two names share bytes:
@@ -95,7 +98,7 @@ fn name_table<A: Allocator + Copy>(
 pub struct DistinctOffsets<'a, A: Allocator> {
     strings: &'a [u8],
     used: UsedOffsets<A>,
-    places: Vec<u32, A>,
+    text_offsets: Vec<u32, A>,
     table: Vec<u8, A>,
 }
 
@@ -107,7 +110,7 @@ impl<'a, A: Allocator> Model for DistinctOffsets<'a, A> {
 
     ghost view = { λ p. record { strings = p.strings.now; offsets = p.used.offsets } };
 
-    ghost invariant = { λ p. AreDistinct p.strings.now p.used p.places.items p.table.items };
+    ghost invariant = { λ p. AreDistinct p.strings.now p.used p.text_offsets.items p.table.items };
 }
 
 impl<'a, A: Allocator + Copy> DistinctOffsets<'a, A> {
@@ -138,11 +141,14 @@ impl<'a, A: Allocator + Copy> DistinctOffsets<'a, A> {
         let Some(table) = name_table(alloc, strings, &used, limit)? else {
             return Ok(None);
         };
-        let NameTable { bytes, places } = table;
+        let NameTable {
+            bytes,
+            text_offsets,
+        } = table;
         Ok(Some(DistinctOffsets {
             strings,
             used,
-            places,
+            text_offsets,
             table: bytes,
         }))
     }
@@ -151,7 +157,7 @@ impl<'a, A: Allocator + Copy> DistinctOffsets<'a, A> {
 impl<A: Allocator> NewOffsets for DistinctOffsets<'_, A> {
     ghost names = { λ p. p };
 
-    ghost offset_of = { λ p. distinct_offset (placed_texts p) };
+    ghost offset_of = { λ p. distinct_offset (texts_by_offset p) };
 
     fn new_offset(&self, off: u32) -> u32 {
         DistinctOffsets::new_offset(self, off)
@@ -164,14 +170,14 @@ impl<A: Allocator> DistinctOffsets<'_, A> {
     pub fn new_offset(&self, off: u32) -> u32
         requires { Contains self.now.offsets off }
         ensures { result
-            ≡ distinct_offset (placed_texts self.now) (text_from self.now.strings off) }
+            ≡ distinct_offset (texts_by_offset self.now) (text_from self.now.strings off) }
     {
-        self.places[self.used.number(off as usize)]
+        self.text_offsets[self.used.number(off as usize)]
     }
 
     /// The table: NUL, then each distinct name with its NUL.
     pub fn table(&self) -> &[u8]
-        ensures value { result.now ≡ distinct_table (placed_texts self.now) }
+        ensures value { result.now ≡ distinct_table (texts_by_offset self.now) }
         ensures short { length result.now < 2 ^ 32 }
     {
         &self.table
@@ -179,7 +185,7 @@ impl<A: Allocator> DistinctOffsets<'_, A> {
 
     /// Returns the table, and frees the memory of all else.
     pub fn into_table(self) -> Vec<u8, A>
-        ensures { result.items ≡ distinct_table (placed_texts self.entry) }
+        ensures { result.items ≡ distinct_table (texts_by_offset self.entry) }
     {
         self.table
     }

@@ -12,8 +12,9 @@ ghost use Rattle.btf_raw.specs.Header.{HasNulEnds};
 ghost use Rattle.btf_types.specs.Reading.{text_from};
 ghost use Rattle.btf_types.specs.strings.SharedNames.{shared_table, shared_offset};
 ghost use Rattle.bpf_canon.specs.btf.strings.{Ranks.AreLower, UsedOffsets.used_count};
-ghost use Rattle.bpf_canon.specs.btf.strings.{HostOffsets.new_name_offset, NamesByOffset.placed_texts};
-ghost use Rattle.bpf_canon.specs.btf.strings.HostOffsets as places;
+ghost use Rattle.bpf_canon.specs.btf.strings.HostOffsets.{new_name_offset};
+ghost use Rattle.bpf_canon.specs.btf.strings.NamesByOffset.{texts_by_offset};
+ghost use Rattle.bpf_canon.specs.btf.strings.HostOffsets as host;
 ghost use Rattle.bpf_canon.specs.btf.strings.InHost as spec;
 
 use crate::btf::strings::new_name_offsets::NewOffsets;
@@ -146,7 +147,7 @@ struct HostOffsets<A: Allocator> {
 /// Appends a string of the section. If it directly follows the last span in the section, that span
 /// is extended.
 fn push_text<A: Allocator>(spans: &mut Vec<Span, A>, text: Span) -> Result<(), AllocError>
-    ensures { OnOk result (places.AddsText spans.old.items spans.new.items text) }
+    ensures { OnOk result (host.AddsText spans.old.items spans.new.items text) }
 {
     if let Some(last) = spans.last_mut() {
         if last.end < text.start && text.start - last.end == 1 {
@@ -169,9 +170,9 @@ fn offset_hosts<A: Allocator + Copy>(
     requires texts { spec.IsRankedFor uses.now ranked.now }
     requires ends { HasNulEnds ranked.now.section.now }
     requires whole { length in_hosts.now ≡ used_count uses.now }
-    requires in_hosts { places.HaveTheirHosts uses.now ranked.now in_hosts.now }
-    requires room { length (shared_table (places.names_in ranked.now uses.now)) < 2 ^ 32 }
-    ensures { IfOk result (places.AreOffsetsOf uses.now ranked.now) }
+    requires in_hosts { host.HaveTheirHosts uses.now ranked.now in_hosts.now }
+    requires capacity { length (shared_table (host.names_in ranked.now uses.now)) < 2 ^ 32 }
+    ensures { IfOk result (host.AreOffsetsOf uses.now ranked.now) }
 {
     let offsets = uses.offsets();
     let mut by_rank = vec![in alloc; 0; ranked.texts.len()]?;
@@ -202,7 +203,7 @@ pub(crate) struct SharedOffsets<'a, A: Allocator> {
     strings: &'a [u8],
     used: UsedOffsets<A>,
     /// The new offset of the name at each used offset, by the offset's number.
-    places: Vec<u32, A>,
+    text_offsets: Vec<u32, A>,
     /// The hosts in the order of the table.
     spans: Vec<Span, A>,
     table_len: u32,
@@ -215,7 +216,7 @@ impl<'a, A: Allocator> Model for SharedOffsets<'a, A> {
 
     ghost view = { λ p. record { strings = p.strings.now; offsets = p.used.offsets } };
 
-    ghost invariant = { λ p. ArePlaced p.strings.now p.used p.places.items p.spans.items
+    ghost invariant = { λ p. ArePlaced p.strings.now p.used p.text_offsets.items p.spans.items
         p.table_len };
 }
 
@@ -229,18 +230,18 @@ fn new_name_offsets<A: Allocator>(
 ) -> Result<Vec<u32, A>, AllocError>
     requires ranked { All (λ at. 0 < at.len → at.host < length by_rank.now) in_hosts.now }
     requires fits { All (λ at. new_name_offset by_rank.now at < 2 ^ 32) in_hosts.now }
-    ensures { IfOk result (λ places.
-        places.items ≡ map (new_name_offset by_rank.now) in_hosts.now) }
+    ensures { IfOk result (λ offsets.
+        offsets.items ≡ map (new_name_offset by_rank.now) in_hosts.now) }
 {
-    let mut places = Vec::with_capacity(alloc, in_hosts.len())?;
+    let mut text_offsets = Vec::with_capacity(alloc, in_hosts.len())?;
     for at in in_hosts {
-        places.push(if at.len == 0 {
+        text_offsets.push(if at.len == 0 {
             0
         } else {
             by_rank[at.host as usize] + at.before
         })?;
     }
-    Ok(places)
+    Ok(text_offsets)
 }
 
 impl<'a, A: Allocator + Copy> SharedOffsets<'a, A> {
@@ -248,7 +249,7 @@ impl<'a, A: Allocator + Copy> SharedOffsets<'a, A> {
     pub(crate) fn find(alloc: A, uses: FirstUses<'a, A>) -> Result<SharedOffsets<'a, A>, AllocError>
         requires ends { HasNulEnds uses.strings }
         requires few { length uses.strings < 2 ^ 32 }
-        requires room { length (shared_table (map (text_from uses.strings) uses.offsets)) < 2 ^ 32 }
+        requires capacity { length (shared_table (map (text_from uses.strings) uses.offsets)) < 2 ^ 32 }
         ensures strings { IfOk result (λ p. p.strings ≡ uses.entry.strings) }
         ensures offsets { IfOk result (λ p. p.offsets ≡ uses.entry.offsets) }
     {
@@ -259,12 +260,12 @@ impl<'a, A: Allocator + Copy> SharedOffsets<'a, A> {
         let in_hosts = find_hosts(alloc, &used, &ranked)?;
         let host_offsets = offset_hosts(alloc, &used, &in_hosts, &ranked)?;
         drop(ranked);
-        let places = new_name_offsets(alloc, &in_hosts, &host_offsets.by_rank)?;
+        let text_offsets = new_name_offsets(alloc, &in_hosts, &host_offsets.by_rank)?;
         let HostOffsets { spans, len, .. } = host_offsets;
         Ok(SharedOffsets {
             strings,
             used,
-            places,
+            text_offsets,
             spans,
             table_len: len,
         })
@@ -274,19 +275,19 @@ impl<'a, A: Allocator + Copy> SharedOffsets<'a, A> {
 impl<A: Allocator> NewOffsets for SharedOffsets<'_, A> {
     ghost names = { λ p. p };
 
-    ghost offset_of = { λ p. shared_offset (placed_texts p) };
+    ghost offset_of = { λ p. shared_offset (texts_by_offset p) };
 
     /// The index is the number of the offset, which needs two loads and a count of bits, and no
     /// search.
     fn new_offset(&self, off: u32) -> u32 {
-        self.places[self.used.number(off as usize)]
+        self.text_offsets[self.used.number(off as usize)]
     }
 }
 
 impl<A: Allocator> SharedOffsets<'_, A> {
     /// The length of the table in bytes.
     pub(crate) fn table_len(&self) -> u32
-        ensures { result ≡ length (shared_table (placed_texts self.now)) }
+        ensures { result ≡ length (shared_table (texts_by_offset self.now)) }
     {
         self.table_len
     }
@@ -295,7 +296,7 @@ impl<A: Allocator> SharedOffsets<'_, A> {
     #[tactic(auto, using(crate::proofs::BtfLemmas::Strings::TableSpans::table_more))]
     pub(crate) fn push_table<B: Allocator>(&self, out: &mut Vec<u8, B>) -> Result<(), AllocError>
         ensures { OnOk result (out.new.items
-            ≡ out.old.items ++ shared_table (placed_texts self.now)) }
+            ≡ out.old.items ++ shared_table (texts_by_offset self.now)) }
     {
         out.push(0)?;
         for span in &self.spans {

@@ -12,7 +12,7 @@ ghost use Rattle.btf_raw.specs.Frames.{IsFrame, bytes_of, section_of};
 ghost use Rattle.btf_types.specs.{Reading.record_of, tables.OffsetWords.ReadsRecord};
 ghost use Rattle.btf_types.specs.{Sections.records_in, Denotes.Denotes};
 ghost use Rattle.bpf_canon.specs.btf.CanonicalBtf.{record_words, canonical};
-ghost use Rattle.bpf_canon.specs.btf.strings.{FirstUses.noted_all, NamesByOffset.placed_texts};
+ghost use Rattle.bpf_canon.specs.btf.strings.{FirstUses.noted_all, NamesByOffset.texts_by_offset};
 ghost use Rattle.bpf_canon.specs.btf.strings.DistinctNames.{distinct_offset};
 ghost use Rattle.bpf_canon.specs.btf.write.NameOffsets.{IsBelow, HasNotedNames, name_offsets};
 ghost use Rattle.bpf_canon.specs.btf.write.NameOffsets.{all_offsets};
@@ -189,7 +189,8 @@ pub fn push_types<A: Allocator, B: Allocator>(
     requires strings { names.now.strings ≡ sections.now.strings }
     requires noted { All (Contains names.now.offsets) (all_offsets sections.now.frames) }
     ensures { OnOk result (out.new.items ≡ out.old.items ++ section_of to
-        (map (record_words (distinct_offset (placed_texts names.now))) (records_in sections.now))) }
+        (map (record_words (distinct_offset (texts_by_offset names.now)))
+        (records_in sections.now))) }
 {
     push_records(out, to, names, sections)
 }

@@ -10,7 +10,7 @@ ghost use Rattle.btf_raw.specs.Frames.{bytes_of};
 ghost use Rattle.btf_types.specs.Values.{head_value, item_value};
 ghost use Rattle.btf_types.specs.{Names.kept, strings.SharedNames.shared_among, Encoding.head_tail};
 ghost use Rattle.btf_types.specs.{Valid.IsValid, Denotes.Denotes, tables.TableWords.record_at};
-ghost use Rattle.bpf_canon.specs.btf.names.Interned.{IsPlaced};
+ghost use Rattle.bpf_canon.specs.btf.names.Interned.{IsInTable};
 ghost use Rattle.bpf_canon.specs.btf.write.BtfWords.{head_words, MemberFits};
 ghost use Rattle.bpf_canon.specs.btf.CanonicalBtf.{canonical, words_of_item, record_words};
 ghost use Rattle.btf_types.specs.Names as spec;
@@ -57,7 +57,7 @@ fn push_head<A: Allocator, B: Allocator + Copy>(
     bit_fields: bool,
 ) -> Result<(), AllocError>
     requires few { count < 2 ^ 16 }
-    requires placed { IsPlaced names.now (spec.head_name (head_value head)) }
+    requires in_table { IsInTable names.now (spec.head_name (head_value head)) }
     ensures { OnOk result (out.new.items
         ≡ out.old.items ++ bytes_of order (head_words (shared_among names.now)
         (head_value head.entry) count bit_fields)) }
@@ -82,7 +82,7 @@ fn push_item<A: Allocator, B: Allocator + Copy>(
     item: Item<'_>,
 ) -> Result<(), AllocError>
     requires fits { MemberFits (item_value item) }
-    requires placed { IsPlaced names.now (spec.item_name (item_value item)) }
+    requires in_table { IsInTable names.now (spec.item_name (item_value item)) }
     ensures { OnOk result (out.new.items
         ≡ out.old.items ++ bytes_of order (words_of_item (shared_among names.now)
         (item_value item.entry))) }

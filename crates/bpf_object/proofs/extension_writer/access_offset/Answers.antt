@@ -1,7 +1,7 @@
 use Rattle.std.proofs.Common.{◌≡◌, ℕ, sym, subst}
 use Rattle.std.specs.List.{Contains}
 use Rattle.bpf_elf.specs.Names.{string_at}
-use Rattle.bpf_object.specs.NotedStrings.{placed}
+use Rattle.bpf_object.specs.NotedStrings.{text_offset}
 use Rattle.bpf_object.proofs.WrittenStrings.{access_noted, placed_at}
 use Rattle.bpf_object.proofs.extension_writer.access_offset.Goals as goal
 
@@ -14,4 +14,4 @@ pub returns : goal.returns
 returns g c =
     let strings = c.args.x.strings.now in
     let here = placed_at c.args.names.now strings c.access_off.result c.new_offset.result c.requires.names.strings c.new_offset.ensures in
-    subst (λ (o : ℕ). c.new_offset.result ≡ placed c.args.names.now (string_at strings o)) c.access_off.ensures.value here
+    subst (λ (o : ℕ). c.new_offset.result ≡ text_offset c.args.names.now (string_at strings o)) c.access_off.ensures.value here

@@ -1,4 +1,4 @@
-use Rattle.bpf_object.specs.NotedStrings.{placed}
+use Rattle.bpf_object.specs.NotedStrings.{text_offset}
 use Rattle.bpf_object.specs.Sources.{section}
 use Rattle.bpf_object.specs.WrittenGroups.{group_bytes_at}
 use Rattle.bpf_object.proofs.KeptLemmas.{appended}
@@ -7,5 +7,5 @@ use Rattle.bpf_object.proofs.extension_writer.push_groups.Goals as goal
 
 pub loop-k-preserved : goal.loop-k-preserved
 loop-k-preserved g c =
-    let next = taken_next (group_bytes_at (section c.args.x) (placed c.args.names.now) c.args.part) c.args.groups.now c.loop-k.k 0 c.loop-k-test.true in
+    let next = taken_next (group_bytes_at (section c.args.x) (text_offset c.args.names.now) c.args.part) c.args.groups.now c.loop-k.k 0 c.loop-k-test.true in
     appended _ _ _ _ _ _ c.loop-k.invariant c.in_ok-push_group.ensures next

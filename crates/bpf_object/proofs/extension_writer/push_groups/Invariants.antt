@@ -1,8 +1,8 @@
 use Rattle.std.proofs.Common.{◌≡◌, ◌++◌, take}
-use Rattle.bpf_object.specs.NotedStrings.{placed}
+use Rattle.bpf_object.specs.NotedStrings.{text_offset}
 use Rattle.bpf_object.specs.Sources.{section}
 use Rattle.bpf_object.specs.WrittenGroups.{groups_bytes}
 use Rattle.bpf_object.proofs.extension_writer.push_groups.Given as goal
 
 abbrev pub invariant-loop-k : goal.invariant-loop-k
-invariant-loop-k g l = l.out.items ≡ l.initial.out.items ++ groups_bytes (section l.x) (placed l.names) l.part (take l.k l.groups)
+invariant-loop-k g l = l.out.items ≡ l.initial.out.items ++ groups_bytes (section l.x) (text_offset l.names) l.part (take l.k l.groups)

@@ -4,4 +4,4 @@ use Rattle.bpf_object.specs.WrittenSections.{section_at}
 use Rattle.bpf_object.proofs.file.table_offset.Given as goal
 
 abbrev pub invariant-loop-k : goal.invariant-loop-k
-invariant-loop-k l = l.place ≡ content_offset (section_at l.sections) l.k
+invariant-loop-k l = l.offset ≡ content_offset (section_at l.sections) l.k

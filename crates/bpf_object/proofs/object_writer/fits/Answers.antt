@@ -6,7 +6,7 @@ pub returns-then-len-gt-FILE_LIMIT : goal.returns-then-len-gt-FILE_LIMIT
 returns-then-len-gt-FILE_LIMIT c =
     too_long c.args.sections.now c.loop-k.k c.args.limit c.loop-k-test.true (omega (arith, c.if-len-gt-FILE_LIMIT.true, c.requires.1))
 
-pub returns-then-place-limit : goal.returns-then-place-limit
-returns-then-place-limit c =
+pub returns-then-offset-limit : goal.returns-then-offset-limit
+returns-then-offset-limit c =
     too_long c.args.sections.now c.loop-k.k c.args.limit c.loop-k-test.true
-    (omega (arith, c.if-place-limit.true, c.loop-k.invariant.0, c.padded_len-place.ensures.value))
+    (omega (arith, c.if-offset-limit.true, c.loop-k.invariant.0, c.padded_len-offset.ensures.value))

@@ -1,8 +1,8 @@
 use Rattle.std.proofs.Common.{◌≡◌, ◌++◌, ℕ, map, subst}
 use Rattle.std.specs.Prelude.{codes}
 use Rattle.bpf_elf.specs.Numbers.{count}
-use Rattle.bpf_canon.specs.btf.strings.{NamesByOffset.placed_texts, DistinctNames.distinct_table}
-use Rattle.bpf_object.specs.{FileWith.section_with, NotedStrings.placed, ObjectParts.last_sections, SectionRows.written_kept, Written.content_of}
+use Rattle.bpf_canon.specs.btf.strings.{NamesByOffset.texts_by_offset, DistinctNames.distinct_table}
+use Rattle.bpf_object.specs.{FileWith.section_with, NotedStrings.text_offset, ObjectParts.last_sections, SectionRows.written_kept, Written.content_of}
 use Rattle.bpf_object.specs.WrittenSections.{section_value}
 use Rattle.bpf_object.proofs.FileStringLemmas.{types_noted, extension_noted}
 use Rattle.bpf_object.proofs.PartLemmas.{four_pushed, symtab_is}
@@ -19,7 +19,7 @@ push_types-requires-2-clause-noted g c =
 pub returns : goal.returns
 returns g c =
     let b = c.args.elf.now in
-    let place = placed c.args.names in
+    let place = text_offset c.args.names in
     let types = content_of c.args.types in
     let extension = content_of c.args.extension in
     let old = map section_value c.args.sections.now.items in
@@ -27,5 +27,5 @@ returns g c =
     let symtab = symtab_is b c.args.types c.args.extension _ _ _ c.is_some.ensures c.is_some-2.ensures c.symtab_number-symtab.ensures.value in
     subst (λ (n : ℕ). new ≡ old ++ (written_kept b place n (count b)
     ++ ((section_with place (codes ".BTF") types ++ section_with place (codes ".BTF.ext") extension)
-    ++ last_sections b place n c.args.parts.now.symbols.items (distinct_table (placed_texts c.args.names))))) symtab
+    ++ last_sections b place n c.args.parts.now.symbols.items (distinct_table (texts_by_offset c.args.names))))) symtab
     (four_pushed old _ _ _ new _ _ _ _ c.in_ok-push_kept.ensures c.in_ok-push_types.ensures c.in_ok-push_types-2.ensures c.in_ok-push_last.ensures)

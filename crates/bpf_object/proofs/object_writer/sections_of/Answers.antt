@@ -1,7 +1,7 @@
 use Rattle.std.proofs.Common.{◌++◌, ℕ, Option, List, ap, map, subst, sym, ◌∙◌}
-use Rattle.bpf_canon.specs.btf.strings.{NamesByOffset.placed_texts, DistinctNames.distinct_table}
+use Rattle.bpf_canon.specs.btf.strings.{NamesByOffset.texts_by_offset, DistinctNames.distinct_table}
 use Rattle.bpf_object.specs.declared.file.WrittenSection.{WrittenSection}
-use Rattle.bpf_object.specs.{FileStrings.HasOwnStrings, NotedStrings.placed, ObjectParts.all_sections, Written.content_of}
+use Rattle.bpf_object.specs.{FileStrings.HasOwnStrings, NotedStrings.text_offset, ObjectParts.all_sections, Written.content_of}
 use Rattle.bpf_object.specs.WrittenSections.{section_value}
 use Rattle.bpf_object.proofs.PartLemmas.{sections_same}
 use Rattle.bpf_object.proofs.object_writer.sections_of.Goals as goal
@@ -18,7 +18,7 @@ returns g c =
     let types = content_of c.args.types.now in
     let extension = content_of c.args.extension.now in
     let parts = c.args.parts.now in
-    let all = λ (t e : Option (List ℕ)). all_sections b (placed c.args.names) t e parts.symbols.items (distinct_table (placed_texts c.args.names)) in
+    let all = λ (t e : Option (List ℕ)). all_sections b (text_offset c.args.names) t e parts.symbols.items (distinct_table (texts_by_offset c.args.names)) in
     c.in_ok-push_all.ensures
     ∙ ap (λ (l : List WrittenSection). map section_value l ++ all (content_of c.borrowed-types.result) (content_of c.borrowed-extension.result)) c.new-sections.ensures.items
     ∙ ap (λ (t : Option (List ℕ)). all t (content_of c.borrowed-extension.result)) c.borrowed-types.ensures

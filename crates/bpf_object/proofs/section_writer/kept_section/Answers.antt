@@ -1,4 +1,4 @@
-use Rattle.bpf_object.specs.NotedStrings.{placed}
+use Rattle.bpf_object.specs.NotedStrings.{text_offset}
 use Rattle.bpf_object.proofs.FileStringLemmas.{section_noted}
 use Rattle.bpf_object.proofs.TableLemmas.{written_is}
 use Rattle.bpf_object.proofs.section_writer.kept_section.Goals as goal
@@ -10,5 +10,5 @@ section_name_offset-requires-clause-noted g c =
 pub returns : goal.returns
 returns g c =
     let row = c.section-section.ensures.fields in
-    written_is c.args.elf.now (placed c.args.names.now) c.args.link c.args.i _ c.section_name_offset.ensures row.section_type row.flags row.address row.size
+    written_is c.args.elf.now (text_offset c.args.names.now) c.args.link c.args.i _ c.section_name_offset.ensures row.section_type row.flags row.address row.size
     c.link_of.ensures c.target.ensures row.alignment row.entry_size c.requires.content

@@ -1,7 +1,7 @@
 use Rattle.std.proofs.Common.{◌≡◌, ◌<◌, ◌≤◌, ℕ, List, length, sym, subst, ◌∙◌}
 use Rattle.std.specs.List.{All}
 use Rattle.bpf_object.specs.declared.extension.Part.TheVariants.{Functions, Relocations}
-use Rattle.bpf_object.specs.NotedStrings.{HasStrings, placed}
+use Rattle.bpf_object.specs.NotedStrings.{HasStrings, text_offset}
 use Rattle.bpf_object.specs.Sources.{section}
 use Rattle.bpf_object.specs.WrittenGroups.{written_extension}
 use Rattle.bpf_object.specs.WrittenTypes.{written_btf}
@@ -38,7 +38,7 @@ write_extension-requires-clause-relocation_names g c =
 pub returns-in_default-2 : goal.returns-in_default-2
 returns-in_default-2 g c =
     let s = c.args.sections.now in
-    let long : 67108864 < length (written_extension (section c.args.x) (placed c.args.names.now) c.args.functions.now c.args.relocations.now) =
+    let long : 67108864 < length (written_extension (section c.args.x) (text_offset c.args.names.now) c.args.functions.now c.args.relocations.now) =
     rw c.in_default-2.is at c.in_ok-extension.ensures in
     no_extension s (section c.args.x) (sym c.requires.strings) c.requires.table c.args.names.now c.requires.names c.args.functions.now c.args.relocations.now
     c.requires.functions.all c.requires.relocations.all (sym c.has_extension.ensures ∙ c.if-not-has_extension.false) long
@@ -46,7 +46,7 @@ returns-in_default-2 g c =
 pub returns : goal.returns
 returns g c =
     let s = c.args.sections.now in
-    let whole = written_extension (section c.args.x) (placed c.args.names.now) c.args.functions.now c.args.relocations.now in
+    let whole = written_extension (section c.args.x) (text_offset c.args.names.now) c.args.functions.now c.args.relocations.now in
     let btf : (length (written_btf c.args.x.order s c.args.names.now) ≤ 15728640) × (c.in-Some.types.items ≡ written_btf c.args.x.order s c.args.names.now) =
     rw c.in-Some.is at c.in_ok-types.ensures in
     let extension : (length whole ≤ 67108864) × (c.in-Some-2.extension.items ≡ whole) = rw c.in-Some-2.is at c.in_ok-extension.ensures in

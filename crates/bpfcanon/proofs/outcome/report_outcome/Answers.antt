@@ -1,4 +1,4 @@
--- The line of a fault names its place and its cause.
+-- The line of a fault names its position and its cause.
 use Rattle.bpfcanon.proofs.outcome.report_outcome.Goals as goal
 
 pub returns-in-First : goal.returns-in-First

@@ -55,7 +55,7 @@ type_row-requires c =
 pub slice_bounds-part-end : goal.slice_bounds-part-end
 slice_bounds-part-end c =
     let within = items_within c.args.table.now c.loop-k.k (omega (arith, c.count-k-end.ensures.count)) in
-    omega (arith, c.loop-k.invariant.count, c.item_count-count.ensures, c.requires.items_room)
+    omega (arith, c.loop-k.invariant.count, c.item_count-count.ensures, c.requires.items_within)
 
 pub put_items-at-requires-clause-left : goal.put_items-at-requires-clause-left
 put_items-at-requires-clause-left c =
@@ -95,13 +95,13 @@ loop-k-preserved c =
     let here : PlacedType = record { at = at; first = first; type = r } in
     let more : placed start 0 (take (k + 1) v) ≡ before ++ here ∷ [] =
     placed_more start v k inside
-    ∙ ap (λ (n : ℕ). before ++ record { at = n; first = length (items_of (take k v)); type = r } ∷ []) (sym c.loop-k.invariant.place)
+    ∙ ap (λ (n : ℕ). before ++ record { at = n; first = length (items_of (take k v)); type = r } ∷ []) (sym c.loop-k.invariant.at_offset)
     ∙ ap (λ (n : ℕ). before ++ record { at = at; first = n; type = r } ∷ []) (sym c.loop-k.invariant.count)
     in
     let count = c.item_count-count.result in
     let written = c.put_items-at.new.out in
     let counted : count ≡ length r.items = c.item_count-count.ensures in
-    let begins : first ≤ length c.loop-k.items = omega (arith, c.loop-k.invariant.count, c.requires.items_room) in
+    let begins : first ≤ length c.loop-k.items = omega (arith, c.loop-k.invariant.count, c.requires.items_within) in
     let middle : first + count - first ≡ count = omega arith in
     let head : head_bytes r.head ≡ c.head_len.result = sym (c.head_len.ensures ∙ ap head_bytes c.file_head-head.ensures) in
     let kind : item_kind r.head ≡ c.item_kind.result = sym (c.item_kind.ensures ∙ ap item_kind c.file_head-head.ensures) in
@@ -114,18 +114,18 @@ loop-k-preserved c =
     let items_say : AllZip (SaysItem o bytes) written (placed_items here) = subst (λ (is : List (ℕ × TypeItem)). AllZip (SaysItem o bytes) written is) items_are c.put_items-at.ensures.said in
     let said_long : length written ≡ count = omega (arith, AllZip-long (SaysItem o bytes) written _ c.put_items-at.ensures.said, length-items_from (at + c.head_len.result) size r.items) in
     let name = subst (λ (n : ℕ). NameAt bytes (c.args.strings_at + n) (head_name r.head)) (sym c.get32.ensures.value) t.named in
-    let place : c.args.strings_at + c.get32.result ≡ strings_at o bytes + word32_at o bytes at =
+    let at_offset : c.args.strings_at + c.get32.result ≡ strings_at o bytes + word32_at o bytes at =
     ap (λ (n : ℕ). c.args.strings_at + n) c.get32.ensures.value ∙ ap (λ (n : ℕ). n + word32_at o bytes at) t.rest.strings_are
     in
     let says : SaysType o bytes c.type_row.result here =
-    says_type o bytes c.type_row.result (c.args.strings_at + c.get32.result) first count _ here c.type_row.ensures place refl c.file_head-head.ensures counted name
+    says_type o bytes c.type_row.result (c.args.strings_at + c.get32.result) first count _ here c.type_row.ensures at_offset refl c.file_head-head.ensures counted name
     in
     let sizes : item_bytes (item_kind r.head) * length r.items ≡ size * length r.items = ap (λ (n : ℕ). item_bytes n * length r.items) kind in
     record {
       left = c.put_items-at.ensures.left;
-      place = omega (arith, c.put_items-at.ensures.end, head, sizes, ip.end, sizes_more v k inside, c.loop-k.invariant.place);
+      at_offset = omega (arith, c.put_items-at.ensures.end, head, sizes, ip.end, sizes_more v k inside, c.loop-k.invariant.at_offset);
       count = omega (arith, c.loop-k.invariant.count, ap length (items_more v k inside), length-append (items_of (take k v)) r.items, counted);
-      types_said = zip_more (SaysType o bytes) c.loop-k.types k c.type_row.result before _ here (omega (arith, c.requires.types_room)) c.loop-k.invariant.types_said more says;
+      types_said = zip_more (SaysType o bytes) c.loop-k.types k c.type_row.result before _ here (omega (arith, c.requires.types_within)) c.loop-k.invariant.types_said more says;
       types_kept = drop-set-lt (k + 1) c.loop-k.types k c.type_row.result (omega arith) ∙ drop_more_same c.loop-k.types c.args.types.now k c.loop-k.invariant.types_kept;
       items_said =
           subst (λ (xs : List ItemRow). AllZip (SaysItem o bytes) xs (flat_map placed_items (placed start 0 (take (k + 1) v))))

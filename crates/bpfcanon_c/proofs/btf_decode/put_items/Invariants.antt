@@ -6,7 +6,7 @@ use Rattle.bpfcanon_c.proofs.btf_decode.put_items.Given as goal
 
 abbrev pub invariant-loop-k : goal.invariant-loop-k
 invariant-loop-k l = record {
-  left : Rest l.order l.bytes l.at l.strings_at l.place.flag (drop l.k (record_at l.table l.id).items) (drop l.id l.table);
-  place : l.at ≡ l.place.start + item_bytes l.place.kind * l.k;
-  said : AllZip (SaysItem l.order l.bytes) (take l.k l.out) (items_from l.place.start (item_bytes l.place.kind) (take l.k (record_at l.table l.id).items));
+  left : Rest l.order l.bytes l.at l.strings_at l.items_at.flag (drop l.k (record_at l.table l.id).items) (drop l.id l.table);
+  at_offset : l.at ≡ l.items_at.start + item_bytes l.items_at.kind * l.k;
+  said : AllZip (SaysItem l.order l.bytes) (take l.k l.out) (items_from l.items_at.start (item_bytes l.items_at.kind) (take l.k (record_at l.table l.id).items));
 }

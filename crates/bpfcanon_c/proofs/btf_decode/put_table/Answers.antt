@@ -54,11 +54,11 @@ returns c =
     let start = c.args.header.types_pos in
     let is_start : start ≡ types_at c.args.header.order bytes = c.requires.header.types_pos in
     let places = length (placed start 0 v) in
-    let item_places = length (flat_map placed_items (placed start 0 v)) in
+    let item_offsets = length (flat_map placed_items (placed start 0 v)) in
     let n-is : n ≡ places = c.count-count.ensures.count ∙ sym (length-placed start 0 v) in
-    let m-is : m ≡ item_places = c.item_total-total.ensures ∙ sym (length-placed_items start 0 v) in
+    let m-is : m ≡ item_offsets = c.item_total-total.ensures ∙ sym (length-placed_items start 0 v) in
     let rows = take places types in
-    let item_rows = take item_places items in
+    let item_rows = take item_offsets items in
     let types_said : AllZip (SaysType d.order bytes) rows (types_in d.order bytes v) =
     subst (λ (o : Order). AllZip (SaysType o bytes) rows (types_in o bytes v)) s.order
     (subst (λ (at : ℕ). AllZip (SaysType c.args.header.order bytes) rows (placed at 0 v)) is_start c.put_all.ensures.types.said)
@@ -68,7 +68,7 @@ returns c =
     (subst (λ (at : ℕ). AllZip (SaysItem c.args.header.order bytes) item_rows (flat_map placed_items (placed at 0 v))) is_start c.put_all.ensures.items.said)
     in
     let t-long : length rows ≡ places = sym (AllZip-long (SaysType c.args.header.order bytes) rows (placed start 0 v) c.put_all.ensures.types.said) in
-    let i-long : length item_rows ≡ item_places =
+    let i-long : length item_rows ≡ item_offsets =
     sym (AllZip-long (SaysItem c.args.header.order bytes) item_rows (flat_map placed_items (placed start 0 v)) c.put_all.ensures.items.said)
     in
     record {
@@ -86,5 +86,5 @@ returns c =
       types_are =
           sym (take-append-drop places types) ∙ ap (λ (x : List TypeRow). rows ++ x) (c.put_all.ensures.types.kept ∙ ap (λ (k : ℕ). drop k c.args.types.now) (sym n-is));
       items_are =
-          sym (take-append-drop item_places items) ∙ ap (λ (x : List ItemRow). item_rows ++ x) (c.put_all.ensures.items.kept ∙ ap (λ (k : ℕ). drop k c.args.items.now) (sym m-is));
+          sym (take-append-drop item_offsets items) ∙ ap (λ (x : List ItemRow). item_rows ++ x) (c.put_all.ensures.items.kept ∙ ap (λ (k : ℕ). drop k c.args.items.now) (sym m-is));
     }

@@ -10,7 +10,7 @@ returns-in-Ok c =
     let types = c.args.types.now in
     let items = c.args.items.now in
     let strings = c.args.strings.now in
-    ends_output (IsEncodedBtf c.args.to types items strings) (IsNoBtf types items strings) c.args.out.now c.put.new.room c.deref.result.now c.put.result
+    ends_output (IsEncodedBtf c.args.to types items strings) (IsNoBtf types items strings) c.args.out.now c.put.new.buffer c.deref.result.now c.put.result
     (subst (λ (out : List ℕ). IsEncodedBtf c.args.to types items strings out) (sym c.deref.ensures.value) c.in-Ok.ensures) c.put.ensures
 
 pub returns-in-Err : goal.returns-in-Err

@@ -8,6 +8,6 @@ pub returns-in-Ok : goal.returns-in-Ok
 returns-in-Ok c =
     let found = c.in-Ok.ensures.found in
     let form = c.deref.ensures.value ∙ found.1.1 in
-    ends_output (IsRecoded c.args.order c.args.to c.args.bytes.now) (IsInsnCode c.args.order c.args.bytes.now) c.args.out.now c.put.new.room c.deref.result.now c.put.result
+    ends_output (IsRecoded c.args.order c.args.to c.args.bytes.now) (IsInsnCode c.args.order c.args.bytes.now) c.args.out.now c.put.new.buffer c.deref.result.now c.put.result
     (record { insns = found.0; file = found.1.0; form = form; fits = ap length form ∙ recoded_length c.args.order c.args.to c.args.bytes.now found.0 found.1.0 })
     c.put.ensures

@@ -10,6 +10,6 @@ returns-in-Ok c =
     let text = c.args.text.now in
     let found = c.in-Ok.ensures.found in
     let form = c.deref.ensures.value ∙ found.2 in
-    ends_output (IsListed to text) (IsLineCode text) c.args.out.now c.put.new.room c.deref.result.now c.put.result
+    ends_output (IsListed to text) (IsLineCode text) c.args.out.now c.put.new.buffer c.deref.result.now c.put.result
     (record { insns = found.0; lists = found.1; form = form; fits = omega (arith, ap length form, listed_fits to text found.0 found.1) })
     c.put.ensures

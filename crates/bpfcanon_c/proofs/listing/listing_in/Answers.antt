@@ -11,6 +11,6 @@ returns-in-Ok-listing c =
     let bytes = c.args.bytes.now in
     let insns = c.in-Ok.insns.items in
     let form = c.deref-in-Ok-listing.ensures.value ∙ c.in-Ok-listing.ensures.text ∙ ap listing_of c.deref.ensures.value in
-    ends_output (IsListing order bytes) (IsInsnCode order bytes) c.args.out.now c.put.new.room c.deref-in-Ok-listing.result.now c.put.result
+    ends_output (IsListing order bytes) (IsInsnCode order bytes) c.args.out.now c.put.new.buffer c.deref-in-Ok-listing.result.now c.put.result
     (record { insns = insns; file = c.in-Ok.ensures.found; form = form; fits = omega (arith, ap length form, listing_fits order bytes insns c.in-Ok.ensures.found) })
     c.put.ensures

@@ -42,7 +42,7 @@ fn naming_of(record: Record, j: usize) -> Naming {
 }
 
 fn name_faults(faults: &mut Faults, types: Types, record: Record, j: usize) {
-    let at = record.place(j);
+    let at = record.offset_of(j);
     let Some(text) = types.text(record.word(j)) else {
         faults.note(true, at, BtfCause::NameRange);
         return;
@@ -83,7 +83,7 @@ fn target_is_wrong(kind: u32, target: u32) -> bool {
 }
 
 fn type_faults(faults: &mut Faults, types: Types, record: Record, j: usize) {
-    let (id, at) = (record.word(j), record.place(j));
+    let (id, at) = (record.word(j), record.offset_of(j));
     let is_beyond = id as usize > types.records.len();
     let is_wrong = target_is_wrong(record.kind(), types.kind(id));
     let is_odd = member_is_odd(types, record, id);
@@ -153,7 +153,7 @@ fn word_faults(faults: &mut Faults, types: Types, record: Record, j: usize) {
         Word::Offset => (member_is_out(record, j), BtfCause::MemberPlace),
         Word::Any => return,
     };
-    faults.note(is_wrong, record.place(j), cause);
+    faults.note(is_wrong, record.offset_of(j), cause);
 }
 
 /// The faults of the fields of all records.

@@ -24,7 +24,7 @@ read g c =
     let x = c.args.name.now in
     let empty = eqb-false (length x) 0 (sym c.if-is_empty.ensures) in
     let at = index_text keys c.args.name c.unwrap-index.result [] (sym c.get_index_of.ensures.index ∙ c.unwrap-index.ensures) in
-    reads_offset (borrowed_texts keys) c.as_slice.result.now c.self.inside.host_indices.items c.self.inside.places.items c.self.inside.table_len c.unwrap-index.result c.index-host.result.now c.index.result.now x no_name refl
+    reads_offset (borrowed_texts keys) c.as_slice.result.now c.self.inside.host_indices.items c.self.inside.text_offsets.items c.self.inside.table_len c.unwrap-index.result c.index-host.result.now c.index.result.now x no_name refl
     (ap borrowed_texts c.as_slice.ensures.keys) (kept_apart (borrowed_texts keys) c.self.invariant.own) c.self.invariant at.0 at.1 (omega (arith, empty)) c.index-host.ensures c.index.ensures
 
 pub overflow_sub-result : goal.overflow_sub-result
@@ -37,4 +37,4 @@ pub overflow_add-result : goal.overflow_add-result
 overflow_add-result g c = omega (arith, (read g (goal.at.overflow_add-result g c).After-as_slice).fits)
 
 pub returns : goal.returns
-returns g c = (read g (goal.at.returns g c).After-as_slice).place ∙ ap (λ (l : List (List ℕ)). shared_among l c.args.name.now) c.self.view_is
+returns g c = (read g (goal.at.returns g c).After-as_slice).text_offset ∙ ap (λ (l : List (List ℕ)). shared_among l c.args.name.now) c.self.view_is

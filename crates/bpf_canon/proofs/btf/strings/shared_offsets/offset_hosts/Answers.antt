@@ -43,11 +43,11 @@ overflow_add-end g c = omega (arith, (lays g (goal.at.overflow_add-end g c).Else
 
 pub overflow_add-len : goal.overflow_add-len
 overflow_add-len g c =
-    omega (arith, (lays g (goal.at.overflow_add-len g c).Else-index-ne0).whole, laid_room c.args.ranked.now.section.now c.args.uses.now.offsets (c.loop-k.k + 1), c.requires.room)
+    omega (arith, (lays g (goal.at.overflow_add-len g c).Else-index-ne0).whole, laid_room c.args.ranked.now.section.now c.args.uses.now.offsets (c.loop-k.k + 1), c.requires.capacity)
 
 pub overflow_add-len-in-loop-k : goal.overflow_add-len-in-loop-k
 overflow_add-len-in-loop-k g c =
-    omega (arith, (lays g (goal.at.overflow_add-len-in-loop-k g c).Else-index-ne0).whole, laid_room c.args.ranked.now.section.now c.args.uses.now.offsets (c.loop-k.k + 1), c.requires.room)
+    omega (arith, (lays g (goal.at.overflow_add-len-in-loop-k g c).Else-index-ne0).whole, laid_room c.args.ranked.now.section.now c.args.uses.now.offsets (c.loop-k.k + 1), c.requires.capacity)
 
 pub loop-k-preserved : goal.loop-k-preserved
 loop-k-preserved g c =

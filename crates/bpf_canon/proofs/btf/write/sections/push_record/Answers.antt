@@ -21,10 +21,10 @@ front : (g : Over) (c : After-kind-kind g)
 front g c =
     let strings = (g.N.NewOffsets.names c.args.names.now).strings in
     let f = c.args.this.now in
-    let place : List ℕ → ℕ = g.N.NewOffsets.offset_of c.args.names.now in
-    let at : c.new_offset-name.result ≡ place (text_from strings (name_word f)) = c.new_offset-name.ensures ∙ ap (λ (w : ℕ). place (text_from strings w)) c.word.ensures in
-    ap (λ (t : List ℕ). t ++ bytes_of c.args.to (record_tail place (record_of strings f))) c.in_ok-push_words.ensures.ok
-    ∙ record_pushed c.args.to c.args.out.now.items place strings f c.new_offset-name.result c.canonical_info-info.result c.word-2.result
+    let text_offset : List ℕ → ℕ = g.N.NewOffsets.offset_of c.args.names.now in
+    let at : c.new_offset-name.result ≡ text_offset (text_from strings (name_word f)) = c.new_offset-name.ensures ∙ ap (λ (w : ℕ). text_offset (text_from strings w)) c.word.ensures in
+    ap (λ (t : List ℕ). t ++ bytes_of c.args.to (record_tail text_offset (record_of strings f))) c.in_ok-push_words.ensures.ok
+    ∙ record_pushed c.args.to c.args.out.now.items text_offset strings f c.new_offset-name.result c.canonical_info-info.result c.word-2.result
     c.requires.reads.ends c.requires.reads.encoded at (c.canonical_info-info.ensures strings c.requires.reads) c.word-2.ensures
 
 named_is : (b : Bool) → not b ≡ false → b ≡ true
@@ -53,10 +53,10 @@ pub returns-then-not-item : goal.returns-then-not-item
 returns-then-not-item g c =
     let strings = (g.N.NewOffsets.names c.args.names.now).strings in
     let f = c.args.this.now in
-    let place = g.N.NewOffsets.offset_of c.args.names.now in
+    let text_offset = g.N.NewOffsets.offset_of c.args.names.now in
     let none : has_item_names (kind f) ≡ false = named_by_row c.args.this.now c.kind-kind.result c.layout_of.result c.layout_of.ensures.row c.kind-kind.ensures ∙ nameless_is _ c.if-not-item.true in
     on_ok_weaker c.push_rest.result
-    (λ e. e ∙ ap (λ (t : List ℕ). c.push_words.new.out.items ++ bytes_of c.args.to t) (rest_words place strings f c.requires.reads.frame c.requires.reads.encoded none)
+    (λ e. e ∙ ap (λ (t : List ℕ). c.push_words.new.out.items ++ bytes_of c.args.to t) (rest_words text_offset strings f c.requires.reads.frame c.requires.reads.encoded none)
     ∙ front g (goal.at.returns-then-not-item g c).After-kind-kind)
     c.push_rest.ensures
 
@@ -99,7 +99,7 @@ loop-k-preserved g c =
     let f = c.args.this.now in
     let size = c.layout_of.result.item.words in
     let from = 3 + size * c.loop-k.k in
-    let place = g.N.NewOffsets.offset_of c.args.names.now in
+    let text_offset = g.N.NewOffsets.offset_of c.args.names.now in
     let name = c.new_offset-name-in-loop-k.result in
     let b : ℕ = slice_index f (from + 1) in
     let d : ℕ = slice_index f (from + 2) in
@@ -117,16 +117,16 @@ loop-k-preserved g c =
     ] in
     pushed
     ∙ ap (λ t. t ++ bytes_of c.args.to (take size (name ∷ b ∷ d ∷ []))) c.loop-k.invariant
-    ∙ named_item_more c.args.to c.push_words.new.out.items place strings f size c.vlen-vlen.result c.loop-k.k c.word-in-loop-k.result name b d
+    ∙ named_item_more c.args.to c.push_words.new.out.items text_offset strings f size c.vlen-vlen.result c.loop-k.k c.word-in-loop-k.result name b d
     c.requires.reads.frame items c.word-in-loop-k.ensures c.new_offset-name-in-loop-k.ensures (ap (slice_index f) second) (ap (slice_index f) third)
 
 pub returns : goal.returns
 returns g c =
     let strings = (g.N.NewOffsets.names c.args.names.now).strings in
     let f = c.args.this.now in
-    let place = g.N.NewOffsets.offset_of c.args.names.now in
+    let text_offset = g.N.NewOffsets.offset_of c.args.names.now in
     let items = named g (goal.at.returns g c).Else-not-item in
     let all : c.loop-k.k ≡ item_total f = omega (arith, items.all, named_total f c.requires.reads.frame items.named) in
-    c.loop-k.invariant ∙ ap (λ (n : ℕ). c.push_words.new.out.items ++ bytes_of c.args.to (items_to place strings f n)) all
-    ∙ ap (λ (t : List ℕ). c.push_words.new.out.items ++ bytes_of c.args.to t) (items_are_tail place strings f c.requires.reads.frame items.named)
+    c.loop-k.invariant ∙ ap (λ (n : ℕ). c.push_words.new.out.items ++ bytes_of c.args.to (items_to text_offset strings f n)) all
+    ∙ ap (λ (t : List ℕ). c.push_words.new.out.items ++ bytes_of c.args.to t) (items_are_tail text_offset strings f c.requires.reads.frame items.named)
     ∙ front g (goal.at.returns g c).After-kind-kind

@@ -12,13 +12,13 @@ push_record-requires-clause-noted g c =
 
 pub loop-index-preserved : goal.loop-index-preserved
 loop-index-preserved g c =
-    let place : List ℕ → ℕ = g.N.NewOffsets.offset_of c.args.names.now in
+    let text_offset : List ℕ → ℕ = g.N.NewOffsets.offset_of c.args.names.now in
     let s = c.args.sections.now in
     let out = c.args.out.now.items in
-    let words : List ℕ → List ℕ = λ strings. bytes_of c.args.to (record_words place (record_of strings c.record-this.result)) in
-    let before = section_of c.args.to (map (record_words place) (map (record_of s.strings) (take c.loop-index.index s.frames))) in
+    let words : List ℕ → List ℕ = λ strings. bytes_of c.args.to (record_words text_offset (record_of strings c.record-this.result)) in
+    let before = section_of c.args.to (map (record_words text_offset) (map (record_of s.strings) (take c.loop-index.index s.frames))) in
     c.in_ok-push_record.ensures
     ∙ ap (λ (strings : List ℕ). c.loop-index.out.items ++ words strings) c.requires.strings
     ∙ ap (λ (t : List ℕ). t ++ words s.strings) c.loop-index.invariant
     ∙ append_assoc out before (words s.strings)
-    ∙ ap (λ (t : List ℕ). out ++ t) (record_more c.args.to place s.strings s.frames c.loop-index.index c.record-this.result c.record-this.ensures.frame)
+    ∙ ap (λ (t : List ℕ). out ++ t) (record_more c.args.to text_offset s.strings s.frames c.loop-index.index c.record-this.result c.record-this.ensures.frame)

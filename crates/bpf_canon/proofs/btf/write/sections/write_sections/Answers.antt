@@ -2,7 +2,7 @@ use Rattle.std.proofs.Common.{◌≡◌, ◌++◌, ℕ, List, length, map, sym, 
 use Rattle.std.specs.List.{All, Contains}
 use Rattle.btf_raw.specs.Header.{header}
 use Rattle.btf_types.specs.{Names.kept, Names.names, Reading.text_from, Sections.records_in}
-use Rattle.bpf_canon.specs.btf.{CanonicalBtf.canonical, strings.NamesByOffset.placed_texts, write.NameOffsets.all_offsets}
+use Rattle.bpf_canon.specs.btf.{CanonicalBtf.canonical, strings.NamesByOffset.texts_by_offset, write.NameOffsets.all_offsets}
 use Rattle.bpf_canon.proofs.BtfLemmas.BtfFiles.{canonical_is_file}
 use Rattle.bpf_canon.proofs.BtfLemmas.Write.SectionFiles.{each_noted, kept_uses, sections_written}
 use Rattle.bpf_canon.proofs.btf.write.sections.write_sections.Given.{Over}
@@ -22,11 +22,11 @@ canonical_bytes g c =
     let front = c.push_header.new.out.items in
     let types_len = length c.types-types_len.result.now in
     let len = c.table_len-table_len.result in
-    let same : kept (placed_texts n) ≡ kept (names (records_in s)) =
+    let same : kept (texts_by_offset n) ≡ kept (names (records_in s)) =
     ap (λ (t : List ℕ). kept (map (text_from t) n.offsets)) (c.in_ok-names.ensures.strings ∙ c.in_ok-uses.ensures.strings)
     ∙ ap (λ (l : List ℕ). kept (map (text_from s.strings) l)) (c.in_ok-names.ensures.offsets ∙ c.in_ok-uses.ensures.offsets)
     ∙ kept_uses s c.types-types_len.ensures.table in
-    sections_written s c.types-types_len.ensures.table s.order c.args.to c.types-types_len.result.now (placed_texts n)
+    sections_written s c.types-types_len.ensures.table s.order c.args.to c.types-types_len.result.now (texts_by_offset n)
     front c.push_records.new.out.items c.push_table.new.out.items types_len len
     c.types-types_len.ensures.section same refl c.table_len-table_len.ensures
     (c.in_ok-push_header.ensures ∙ ap (λ (b : List ℕ). b ++ header c.args.to 24 0 types_len types_len len) c.in_ok-bytes.ensures.items)

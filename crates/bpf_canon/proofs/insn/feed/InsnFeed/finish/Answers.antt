@@ -15,9 +15,9 @@ returns-in-None-2-clause-answer c = λ o to b h.
     let s = the_view c.self.inside in
     let P : FeedState → Type 0 = λ x. Represents x o to b in
     let size : length s.held ≡ c.self.inside.held_len = length-take-le c.self.inside.held_len c.self.inside.held (omega (arith, c.self.invariant.short)) in
-    let place : c.self.inside.fed - c.self.inside.held_len % 8 ≡ s.fed - length s.held + missing_offset (length s.held) =
+    let text_offset : c.self.inside.fed - c.self.inside.held_len % 8 ≡ s.fed - length s.held + missing_offset (length s.held) =
     slot_offset c.self.inside.fed c.self.inside.held_len c.self.invariant.short (omega (arith, c.self.invariant.counted))
     ∙ ap (λ n. c.self.inside.fed - n + missing_offset n) (sym size) in
-    let end = end-cut s.fed s.count _ s.held s.fault c.in-None-2.is (omega (arith, size, c.if-self-eq0.false)) place in
+    let end = end-cut s.fed s.count _ s.held s.fault c.in-None-2.is (omega (arith, size, c.if-self-eq0.false)) text_offset in
     let Q : Result ℕ SlotFault → Type 0 = λ r. Finishes o b r in
     subst Q (sym end) (ends s o to b (omega (arith, size, c.self.invariant.counted)) c.self.invariant.cut (subst P (sym c.self.view_is) h))

@@ -9,10 +9,10 @@ use Rattle.btf_types.proofs.tables.checked_file.CheckedFile.check.Goals as goal
 cut : (b : List ℕ) (pos len : ℕ) → take (pos + len - pos) (drop pos b) ≡ part b pos len
 cut b pos len = let same : pos + len - pos ≡ len = omega arith in rw same refl
 
-frames_read : (b : List ℕ) (h : Header) (types strings places : List ℕ) → ReadsHeader b h × HasNone (HeaderFault b) → types ≡ types_of b h → strings ≡ strings_of b h
-    → HasNulEnds strings → IsFramed h.order types places → HasFrames b h places
-frames_read b h types strings places read types-are strings-are ends framed =
-    framing_checked b h places (strings_checked b h (record { reads = read.0; none = read.1 }) (rw strings-are at ends)) (rw types-are at framed)
+frames_read : (b : List ℕ) (h : Header) (types strings offsets : List ℕ) → ReadsHeader b h × HasNone (HeaderFault b) → types ≡ types_of b h → strings ≡ strings_of b h
+    → HasNulEnds strings → IsFramed h.order types offsets → HasFrames b h offsets
+frames_read b h types strings offsets read types-are strings-are ends framed =
+    framing_checked b h offsets (strings_checked b h (record { reads = read.0; none = read.1 }) (rw strings-are at ends)) (rw types-are at framed)
 
 pub returns-in-Err-check_fields : goal.returns-in-Err-check_fields
 returns-in-Err-check_fields g c =
@@ -20,10 +20,10 @@ returns-in-Err-check_fields g c =
     let h = c.in_ok-header.header in
     let types = cut b h.types_pos h.types_len in
     let strings = cut b h.str_pos h.str_len in
-    let places = c.in-Ok.places.items in
-    let frames = frames_read b h _ _ places c.in_ok-header.ensures types strings c.in_default.ensures.cases c.in-Ok.ensures.cases in
+    let offsets = c.in-Ok.offsets.items in
+    let frames = frames_read b h _ _ offsets c.in_ok-header.ensures types strings c.in_default.ensures.cases c.in-Ok.ensures.cases in
     let fails = rw (types, strings, c.deref.ensures.value) at c.in-Err-check_fields.ensures.cases in
-    rw c.moved-in-Err-check_fields.ensures (fails_fields b h places c.in-Err-check_fields.error frames fails)
+    rw c.moved-in-Err-check_fields.ensures (fails_fields b h offsets c.in-Err-check_fields.error frames fails)
 
 pub invariant_of-result : goal.invariant_of-result
 invariant_of-result g c =
@@ -31,10 +31,10 @@ invariant_of-result g c =
     let h = c.in_ok-header.header in
     let types = cut b h.types_pos h.types_len in
     let strings = cut b h.str_pos h.str_len in
-    let places = c.in-Ok.places.items in
-    let frames = frames_read b h _ _ places c.in_ok-header.ensures types strings c.in_default.ensures.cases c.in-Ok.ensures.cases in
+    let offsets = c.in-Ok.offsets.items in
+    let frames = frames_read b h _ _ offsets c.in_ok-header.ensures types strings c.in_default.ensures.cases c.in-Ok.ensures.cases in
     let right = rw (types, strings, c.deref.ensures.value) at c.in_default-check_fields.ensures.cases in
-    rw (types, strings) (is_checked b h places frames right)
+    rw (types, strings) (is_checked b h offsets frames right)
 
 pub returns : goal.returns
 returns g c =
@@ -42,9 +42,9 @@ returns g c =
     let h = c.in_ok-header.header in
     let types = cut b h.types_pos h.types_len in
     let strings = cut b h.str_pos h.str_len in
-    let places = c.in-Ok.places.items in
-    let frames = frames_read b h _ _ places c.in_ok-header.ensures types strings c.in_default.ensures.cases c.in-Ok.ensures.cases in
+    let offsets = c.in-Ok.offsets.items in
+    let frames = frames_read b h _ _ offsets c.in_ok-header.ensures types strings c.in_default.ensures.cases c.in-Ok.ensures.cases in
     let right = rw (types, strings, c.deref.ensures.value) at c.in_default-check_fields.ensures.cases in
-    let holds : HoldsSections b (words_at h.order (take (h.types_pos + h.types_len - h.types_pos) (drop h.types_pos b)) (take (h.str_pos + h.str_len - h.str_pos) (drop h.str_pos b)) places) =
-    rw (types, strings) (holds_sections b h places frames right) in
+    let holds : HoldsSections b (words_at h.order (take (h.types_pos + h.types_len - h.types_pos) (drop h.types_pos b)) (take (h.str_pos + h.str_len - h.str_pos) (drop h.str_pos b)) offsets) =
+    rw (types, strings) (holds_sections b h offsets frames right) in
     holds

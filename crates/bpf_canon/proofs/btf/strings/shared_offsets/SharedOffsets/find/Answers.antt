@@ -22,7 +22,7 @@ ranked g c =
 room : (g : Over) (c : In_ok-ranked g) → length (shared_table (names_in c.in_ok-ranked.ranked c.in_ok-used.used)) < 2 ^ 32
 room g c =
     subst (λ (s : List ℕ). length (shared_table (map (text_from s) c.in_ok-used.used.offsets)) < 2 ^ 32) (sym (ap (λ (n : Noted). n.strings) c.uses.view_is) ∙ sym c.in_ok-ranked.ensures.section)
-    (subst (λ (l : List ℕ). length (shared_table (map (text_from c.args.uses.strings) l)) < 2 ^ 32) (sym c.in_ok-used.ensures.offsets) c.requires.room)
+    (subst (λ (l : List ℕ). length (shared_table (map (text_from c.args.uses.strings) l)) < 2 ^ 32) (sym c.in_ok-used.ensures.offsets) c.requires.capacity)
 
 pub find_hosts-requires : goal.find_hosts-requires
 find_hosts-requires g c = ranked g (goal.at.find_hosts-requires g c).In_ok-ranked
@@ -35,8 +35,8 @@ offset_hosts-requires-clause-in_hosts g c =
     subst (HaveTheirHosts c.in_ok-used.used c.in_ok-ranked.ranked) (sym c.deref.ensures.value)
     (all_found c.in_ok-used.used c.in_ok-ranked.ranked c.in_ok-in_hosts.in_hosts.items c.in_ok-used.ensures.marked (ranked g (goal.at.offset_hosts-requires-clause-in_hosts g c).In_ok-ranked) c.in_ok-in_hosts.ensures)
 
-pub offset_hosts-requires-clause-room : goal.offset_hosts-requires-clause-room
-offset_hosts-requires-clause-room g c = room g (goal.at.offset_hosts-requires-clause-room g c).In_ok-ranked
+pub offset_hosts-requires-clause-capacity : goal.offset_hosts-requires-clause-capacity
+offset_hosts-requires-clause-capacity g c = room g (goal.at.offset_hosts-requires-clause-capacity g c).In_ok-ranked
 
 pub new_name_offsets-requires-clause-ranked : goal.new_name_offsets-requires-clause-ranked
 new_name_offsets-requires-clause-ranked g c =
@@ -55,8 +55,8 @@ invariant_of-result g c =
     let used = c.in_ok-used.used in
     let r = c.in_ok-ranked.ranked in
     let host_offsets = c.in_ok-host_offsets.host_offsets in
-    let are : c.in_ok-places.places.items ≡ map (new_name_offset host_offsets.by_rank.items) c.in_ok-in_hosts.in_hosts.items =
-    c.in_ok-places.ensures ∙ ap (λ (p : List ℕ). map (new_name_offset p) c.deref-2.result.now) c.deref-3.ensures.value ∙ ap (map (new_name_offset host_offsets.by_rank.items)) c.deref-2.ensures.value in
-    subst (λ (s : List ℕ). ArePlaced s used c.in_ok-places.places.items host_offsets.spans.items host_offsets.len) c.in_ok-ranked.ensures.section
+    let are : c.in_ok-text_offsets.text_offsets.items ≡ map (new_name_offset host_offsets.by_rank.items) c.in_ok-in_hosts.in_hosts.items =
+    c.in_ok-text_offsets.ensures ∙ ap (λ (p : List ℕ). map (new_name_offset p) c.deref-2.result.now) c.deref-3.ensures.value ∙ ap (map (new_name_offset host_offsets.by_rank.items)) c.deref-2.ensures.value in
+    subst (λ (s : List ℕ). ArePlaced s used c.in_ok-text_offsets.text_offsets.items host_offsets.spans.items host_offsets.len) c.in_ok-ranked.ensures.section
     (subst (λ (l : List ℕ). ArePlaced r.section.now used l host_offsets.spans.items host_offsets.len) (sym are)
     (all_placed used r c.in_ok-in_hosts.in_hosts.items c.in_ok-used.ensures.marked (ranked g (goal.at.invariant_of-result g c).In_ok-ranked) c.in_ok-in_hosts.ensures host_offsets c.in_ok-host_offsets.ensures))

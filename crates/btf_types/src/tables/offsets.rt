@@ -25,37 +25,37 @@ use std::marker::Model;
 /// `Fault` with the first fault of the framing, whose offset counts bytes from the start of the
 /// section. `Memory` if memory can't be allocated.
 #[tactic(auto, using(crate::proofs::CheckLemmas::FramingSteps::first_framing_fault))]
-pub fn record_places<A: Allocator>(
+pub fn record_offsets<A: Allocator>(
     alloc: A,
     order: Order,
     types: &[u8],
 ) -> Result<Vec<u32, A>, BtfError>
     requires { length types.now ≤ 2 ^ 25 }
     ensures inside { FaultInside (length types.now) result }
-    ensures cases { MatchResult result (λ places. IsFramed order types.now places.items) (λ e.
+    ensures cases { MatchResult result (λ offsets. IsFramed order types.now offsets.items) (λ e.
         FailsFraming order types.now e) }
 {
-    let mut places = Vec::new(alloc);
+    let mut offsets = Vec::new(alloc);
     let mut pos = 0;
     while pos < types.len() {
         let head = next_head(order, types, pos)?;
-        places.push(pos as u32)?;
+        offsets.push(pos as u32)?;
         pos = head.next;
     }
-    Ok(places)
+    Ok(offsets)
 }
 
 /// The offsets of records in the type section, and of the ends of long strings in the string
 /// section, in bytes from the start of each section.
 #[derive(Drop)]
-pub struct Places<A: Allocator> {
+pub struct KeptOffsets<A: Allocator> {
     /// The offsets of the records, followed by the ends of the long strings.
     index: Vec<u32, A>,
     /// The number of records.
     count: usize,
 }
 
-impl<A: Allocator> Model for Places<A> {
+impl<A: Allocator> Model for KeptOffsets<A> {
     ghost use Rattle.std.specs.Prelude.{◌≤◌, length, take, drop};
     ghost use Rattle.btf_types.specs.tables.TableOffsets.{TableOffsets};
 
@@ -67,18 +67,18 @@ impl<A: Allocator> Model for Places<A> {
     ghost invariant = { λ p. p.count ≤ length p.index.items };
 }
 
-impl<A: Allocator> Places<A> {
+impl<A: Allocator> KeptOffsets<A> {
     /// Keeps these offsets of records, and finds the ends of the long strings.
-    pub fn new(records: Vec<u32, A>, strings: &[u8]) -> Result<Places<A>, AllocError>
+    pub fn new(records: Vec<u32, A>, strings: &[u8]) -> Result<KeptOffsets<A>, AllocError>
         requires nuls { HasNulEnds strings.now }
-        requires room { length strings.now < 2 ^ 32 }
+        requires capacity { length strings.now < 2 ^ 32 }
         ensures records { IfOk result (λ p. p.records ≡ records.items) }
         ensures ends { IfOk result (λ p. AreLongEnds strings.now p.ends) }
     {
         let count = records.len();
         let mut index = records;
         push_long_ends(&mut index, strings)?;
-        Ok(Places { index, count })
+        Ok(KeptOffsets { index, count })
     }
 
     /// The offsets of the records, in order.
