@@ -95,7 +95,7 @@ pub(crate) fn insn_files() -> [&'static [InsnFile]; 5] {[&[
     InsnFile { order: Order::Little, bytes: b"\xd7\x01\0\0\x08\0\0\0", canonical: b"", fault: Some((4, SlotCause::Imm)) },
     InsnFile { order: Order::Little, bytes: b"\xdf\0\0\0\0\0\0\0", canonical: b"", fault: Some((0, SlotCause::Opcode)) },
     InsnFile { order: Order::Little, bytes: b"\x8d\0\0\0\0\0\0\0", canonical: b"", fault: Some((0, SlotCause::Opcode)) },
-    InsnFile { order: Order::Little, bytes: b"\xe5\0\0\0\0\0\0\0", canonical: b"", fault: Some((0, SlotCause::Opcode)) },
+    InsnFile { order: Order::Little, bytes: b"\xff\0\0\0\0\0\0\0", canonical: b"", fault: Some((0, SlotCause::Opcode)) },
     InsnFile { order: Order::Little, bytes: b"\xd3\0\0\0\0\0\0\0", canonical: b"", fault: Some((0, SlotCause::Opcode)) },
     InsnFile { order: Order::Little, bytes: b"\x99\0\0\0\0\0\0\0", canonical: b"", fault: Some((0, SlotCause::Opcode)) },
     InsnFile { order: Order::Little, bytes: b"\x18\x01\0\0\x88\x77\x66\x55\0\0\0\0", canonical: b"", fault: Some((8, SlotCause::Truncated)) },
