@@ -1,4 +1,5 @@
-//! Each growth of the calls that have no command and no function of C fails in turn: the writers, the feed, and sinks that grow.
+//! Each growth fails in turn where no command and no function of C shows it: in the writers, over a table of the user's own,
+//! `canon_insns`, `canon_btf`, a feed whose output grows piece by piece, and sinks that grow.
 //!
 //! The BTF has 26 types with 28 names, more than are sorted in place.
 
@@ -7,9 +8,12 @@ use super::btf_files::{BIG_INT, LOOSE_INT};
 use super::compiled_types::{flow_table_big, flow_table_little};
 use super::expect::{equal, holds};
 use super::own_table::Counting;
-use crate::{InsnFeed, MemSink, MemSource, canon_btf, run_btf, run_insns, write_btf, write_insns};
-use bpf_insn::{Insn, InsnError, Order};
-use btf_types::BtfView;
+use crate::{
+    InsnFeed, MemSink, MemSource, canon_btf, canon_insns, run_btf, run_insns, write_btf,
+    write_insns,
+};
+use bpf_insn::{Insn, InsnError, Order, SlotCause, SlotFault};
+use btf_types::{BtfError, BtfView};
 use bumpalo::Bump;
 use std::alloc::{AllocError, Allocator, Global};
 use std::process::Abort;
@@ -17,6 +21,12 @@ use std::process::Abort;
 /// An exit seven times.
 const EXITS: &[u8; 56] =
     b"\x95\0\0\0\0\0\0\0\x95\0\0\0\0\0\0\0\x95\0\0\0\0\0\0\0\x95\0\0\0\0\0\0\0\x95\0\0\0\0\0\0\0\x95\0\0\0\0\0\0\0\x95\0\0\0\0\0\0\0";
+
+/// The fault of exits without their last four bytes: the seventh begins at 48.
+const CUT: SlotFault = SlotFault {
+    pos: 48,
+    cause: SlotCause::Truncated,
+};
 
 /// How many bytes the canonical bytes of the BTF have: a header of 24, records of 540, and names of 187.
 const CANONICAL_LEN: usize = 751;
@@ -34,6 +44,23 @@ fn write_types(bump: &Bump<Global>, view: &BtfView<'_>, big: &[u8]) -> Outcome {
         Ok(bytes) => whole_if(bytes.as_slice() == big),
         // The calls of the table that were made show how far the writer came.
         Err(AllocError) => Outcome::Refused(table.calls()),
+    }
+}
+
+fn canon_exits(bump: &Bump<Global>, file: &[u8], answer: Result<&[u8], SlotFault>) -> Outcome {
+    match canon_insns(bump, Order::Big, file) {
+        Ok(bytes) => whole_if(answer == Ok(bytes.as_slice())),
+        Err(InsnError::Fault(fault)) => whole_if(answer == Err(fault)),
+        Err(InsnError::Memory) => Outcome::Refused(0),
+    }
+}
+
+fn canon_types(bump: &Bump<Global>) -> Outcome {
+    match canon_btf(bump, flow_table_big()) {
+        // The contract says which bytes these are.
+        Ok(bytes) => whole_if(bytes.len() == CANONICAL_LEN),
+        Err(BtfError::Fault(_)) => Outcome::Wrong,
+        Err(BtfError::Memory) => Outcome::Refused(0),
     }
 }
 
@@ -98,6 +125,9 @@ enum Call<'a> {
     WriteInsns,
     /// The types, and what is written for them with ample memory.
     WriteTypes(&'a BtfView<'a>, &'a [u8]),
+    CanonInsns,
+    CanonCutInsns,
+    CanonTypes,
     Feed,
     SinkInsns,
     SinkTypes,
@@ -108,6 +138,9 @@ impl ArenaCall for Call<'_> {
         match self {
             Call::WriteInsns => write_exits(bump),
             Call::WriteTypes(view, big) => write_types(bump, view, big),
+            Call::CanonInsns => canon_exits(bump, EXITS, Ok(EXITS)),
+            Call::CanonCutInsns => canon_exits(bump, &EXITS[..52], Err(CUT)),
+            Call::CanonTypes => canon_types(bump),
             Call::Feed => fed(bump),
             Call::SinkInsns => sink_exits(alloc, bump),
             Call::SinkTypes => sink_types(alloc, bump),
@@ -115,7 +148,8 @@ impl ArenaCall for Call<'_> {
     }
 }
 
-/// Checks that at least so many arenas are too small for a call, and that its growths fail at so many points or more.
+/// Checks that at least so many arenas are too small for a call, and that its growths fail at so many points or more. An arena is too
+/// small if it can't hold the bytes that the call writes.
 fn check(rt: &impl Abort, alloc: Global, call: Call<'_>, refused: usize, points: usize) {
     let tally = Tally::of(rt, alloc, &call);
     holds(rt, tally.is_right(refused, points), &(refused, tally));
@@ -131,6 +165,9 @@ fn each_growth_is_refused(rt: HostRuntime) {
     equal(&rt, &lens, &(CANONICAL_LEN, CANONICAL_LEN), &"the lengths");
     check(&rt, alloc, Call::WriteInsns, 56, 1);
     check(&rt, alloc, Call::WriteTypes(&view, &big), CANONICAL_LEN, 4);
+    check(&rt, alloc, Call::CanonInsns, 56, 1);
+    check(&rt, alloc, Call::CanonCutInsns, 48, 1);
+    check(&rt, alloc, Call::CanonTypes, CANONICAL_LEN, 1);
     check(&rt, alloc, Call::Feed, 56, 3);
     check(&rt, alloc, Call::SinkInsns, 56, 3);
     check(&rt, alloc, Call::SinkTypes, 45, 3);
