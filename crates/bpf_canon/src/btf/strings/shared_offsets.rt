@@ -249,7 +249,8 @@ impl<'a, A: Allocator + Copy> SharedOffsets<'a, A> {
     pub(crate) fn find(alloc: A, uses: FirstUses<'a, A>) -> Result<SharedOffsets<'a, A>, AllocError>
         requires ends { HasNulEnds uses.strings }
         requires few { length uses.strings < 2 ^ 32 }
-        requires capacity { length (shared_table (map (text_from uses.strings) uses.offsets)) < 2 ^ 32 }
+        requires capacity { length (shared_table (map (text_from uses.strings) uses.offsets))
+            < 2 ^ 32 }
         ensures strings { IfOk result (λ p. p.strings ≡ uses.entry.strings) }
         ensures offsets { IfOk result (λ p. p.offsets ≡ uses.entry.offsets) }
     {
