@@ -1,7 +1,7 @@
 # make            the commands and the C library, proved and built (15 to 25 minutes at first), in out/prefix
 # make demo       the main job on an example, unproved, in a minute; make demo-proved proves it first
-# make check      all proofs and tests (60 to 130 minutes); make check-quick what needs seconds and no proof; make check-tests the tests of
-#                 what is built
+# make check      all proofs and tests (60 to 110 minutes on 4 processors); make check-quick what needs seconds and no proof;
+#                 make check-tests the tests of what is built
 # make install    what is built, into PREFIX (and DESTDIR), with libraries in LIBDIR; make uninstall removes it
 # make tools      what the tests need from Debian, as root. CI is `CI=true make tools check` (.ci/run): a test that is skipped for want of
 #                 a tool then fails if apt has the tool
@@ -18,6 +18,7 @@ WORKERS ?= $(shell nproc)
 PROGRAMS = bpfcanon bpfcanon_object
 COMMANDS = $(foreach it,$(PROGRAMS),crates/$(it)/out/$(it))
 ARCHIVE = crates/bpfcanon_c/out/libbpfcanon_c.a
+RELEASE_LOGS = out/aarch64.log $(PROGRAMS:%=out/%.log)
 LIBRARY = out/prefix/include/bpfcanon.h
 PACKAGES = $(shell sed 's/^\#.*//; s/ .*//' tests/packages.txt)
 export SOURCE_DATE_EPOCH ?= $(shell git log -1 --format=%ct)
@@ -44,7 +45,7 @@ demo demo-proved:
 	echo 'right: the canonical bytes of the big-endian program are those of the little-endian one$(if $(filter demo,$@),. Nothing was proved)'
 
 # The commands aren't a prerequisite: the sources of a release have the archive alone.
-out/meson/build.ninja:
+out/meson/build.ninja: | $(ARCHIVE)
 	meson setup out/meson -Dtests=true
 INSTALL = meson configure out/meson --prefix $(1) --libdir $(2) -Dcommand=$(if $(filter-out $(wildcard $(COMMANDS)),$(COMMANDS)),false,true) && meson install -C out/meson --quiet
 $(LIBRARY): $(ARCHIVE) | out/meson/build.ninja
@@ -69,17 +70,20 @@ check-quick: lint
 # A mutation that can't be applied shows nothing, and rt ci lets it pass. After its run rt ci puts the libraries of earlier checks back in
 # place of those that it proved, which the archive is made over.
 prove:
-	rm -rf out/PROVED.txt crates/*/out/rlib crates/bpfcanon_c/out/libbpfcanon_c*.a crates/*/out/release
+	rm -rf out/PROVED.txt crates/*/out/rlib crates/bpfcanon_c/out/libbpfcanon_c*.a
 	for crate in $(PROGRAMS) bpfcanon_c; do capi/sources $$crate; done > out/sources
 	rt ci 2>&1 | tee out/rt_ci.log && ! grep -qa 'BAD EDIT' out/rt_ci.log
 
-# The objects of the release are made meanwhile.
-check-tests: $(LIBRARY)
-	$(MAKE) -j 2 --output-sync=target release-objects check-c check-built
+# What else a release needs is made meanwhile, each with its verdict: the archive for ARM, and the objects of the programs.
+check-tests:
+	$(MAKE) -j $(RT_JOBS) --output-sync=target release-objects check-c check-built
 check-built: | check-c
 	$(PYTEST) -m "not quick and not release" --prefix=$(CURDIR)/out/prefix | tee out/tests.log
-release-objects: $(ARCHIVE)
-	@[ "$$(cat out/rt_ci.log 2> out/found)" = "" ] || { capi/archive --keep aarch64 && packaging/program.py --keep; } 2>&1 | tee out/objects.log
+release-objects: $(if $(wildcard out/rt_ci.log),$(RELEASE_LOGS))
+out/aarch64.log: FORCE
+	capi/archive --keep aarch64 2>&1 | tee $@
+$(PROGRAMS:%=out/%.log): out/%.log: FORCE
+	packaging/program.py $* 2>&1 | tee $@
 
 # The calls from C: as they are, under valgrind, and under sanitizers.
 check-c: $(LIBRARY)
@@ -93,7 +97,7 @@ check-c: $(LIBRARY)
 # What was proved, and the hashes of what was built of it, unless the sources have changed since. A release needs this.
 record:
 	for crate in $(PROGRAMS) bpfcanon_c; do capi/sources $$crate; done | cmp - out/sources
-	$(PYTHON) packaging/proved.py out/rt_ci.log out/archive.log out/objects.log > out/PROVED.txt || { rm out/PROVED.txt; exit 1; }
+	$(PYTHON) packaging/proved.py out/rt_ci.log out/archive.log $(RELEASE_LOGS) > out/PROVED.txt || { rm out/PROVED.txt; exit 1; }
 check-release:
 	$(PYTHON) -m pytest -q -m release --durations=5 | tee out/release.log
 

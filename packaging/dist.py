@@ -41,7 +41,6 @@ def check_tree(is_unverified: bool) -> str:
         raise Refused(f"{changed[0][3:]} is not as it was committed")
     if f"\n## {VERSION}" not in (TOP / "CHANGELOG.md").read_text():
         raise Refused(f"CHANGELOG.md has no section for {VERSION}")
-    proved.check_objects()
     text = proved.UNVERIFIED if is_unverified else proved.check()
     return f"bpfcanon {VERSION}, commit {run('git', '-C', TOP, 'rev-parse', 'HEAD').strip()}\n{text}"
 

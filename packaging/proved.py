@@ -45,13 +45,6 @@ def record(logs: list[pathlib.Path]) -> str:
     return "\n".join([MEANING, *sources(), *sums(BUILT), f"kit {run('rt', 'version').strip()}", *verdicts, ""])
 
 
-def check_objects() -> None:
-    """Raises if a program's object is made from other sources. The archives have the hash of theirs, which meson.build compares."""
-    for it in PROGRAMS:
-        if it.hash.read_text() != run(TOP / "capi" / "sources", it.crate):
-            raise Refused(f"{it.object.relative_to(TOP)} is made from other sources; packaging/program.py makes it again")
-
-
 def check() -> str:
     """Raises if what is built isn't what make check passed. Returns the record."""
     text = RECORD.read_text()

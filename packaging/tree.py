@@ -25,13 +25,8 @@ class Program(NamedTuple):
 
     @property
     def object(self) -> pathlib.Path:
-        """What packaging/program.py makes."""
-        return self.built.parent / "release" / f"{self.crate}.o"
-
-    @property
-    def hash(self) -> pathlib.Path:
-        """The hash of the sources that the object is made from."""
-        return self.object.with_name("sources.sha256")
+        """What rt links it from."""
+        return self.built.with_suffix(".o")
 
 
 PROGRAMS = [Program("bpfcanon"), Program("bpfcanon_object")]

@@ -10,7 +10,6 @@ from tests.released.use import BUILT, RECORD, clone, output
 
 # A file of a clone that is made empty, and why there is no release then.
 REFUSED = {it: f"{it} is not the one that make check passed; run it again" for it in BUILT}
-REFUSED |= {it: "made from other sources; packaging/program.py makes it again" for it in BUILT if it.endswith(".sha256")}
 REFUSED |= {"README.md": "README.md is not as it was committed", RECORD: "the sources are not those that make check passed; run it again"}
 
 
