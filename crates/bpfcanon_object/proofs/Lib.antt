@@ -3,3 +3,4 @@ pub mod EscapeLemmas
 pub mod KeyLineLemmas
 pub mod TargetLemmas
 pub mod TextLemmas
+pub mod UnescapeLemmas

@@ -9,7 +9,7 @@ use Rattle.bpfcanon_object.specs.Escape.{escaped, escaped_char, is_control, numb
 use Rattle.bpfcanon_object.proofs.EscapeLemmas.{IsAscii-two_digits, control_bound}
 
 -- a fact about both values of a choice
-by_cond : (Q : List ℕ → Type 0) (b : Bool) (x y : List ℕ) → (b ≡ true → Q x) → (b ≡ false → Q y) → Q (cond b x y)
+pub by_cond : (Q : List ℕ → Type 0) (b : Bool) (x y : List ℕ) → (b ≡ true → Q x) → (b ≡ false → Q y) → Q (cond b x y)
 by_cond Q true x y p q = p refl
 by_cond Q false x y p q = q refl
 

@@ -3,12 +3,13 @@
 //! A name may hold any character but NUL. Control characters (general category Cc) are written with
 //! a backslash, and so is the backslash itself, so that each name has a text of its own.
 
-ghost use Rattle.std.specs.Prelude.{◌≡◌, ◌<◌, ◌++◌, ℕ, List, string_bytes, true, false};
-ghost use Rattle.std.specs.Prelude.{IfOk, IfSome, OnOk};
-ghost use Rattle.std.specs.{Fmt.digit_glyph, Str.IsUtf8};
+ghost use Rattle.std.specs.Prelude.{◌≡◌, ◌<◌, ◌≤◌, ◌++◌, ◌∷◌, ℕ, List, length, true, false};
+ghost use Rattle.std.specs.Prelude.{IfOk, IfSome, IsSome, MatchOption, OnOk, Some, string_bytes};
+ghost use Rattle.std.specs.{Fmt.digit_glyph, Str.IsUtf8, Str.Iter.chars_rest};
 ghost use Rattle.bpfcanon_object.specs.Escape as spec;
 
 use std::alloc::{AllocError, Allocator};
+use std::str::Chars;
 
 /// A hexadecimal digit.
 fn digit(n: u8) -> char
@@ -86,38 +87,73 @@ pub fn marked<A: Allocator + Copy>(alloc: A, name: &str) -> Result<String<A>, Al
     format!(in alloc; "\\{text}")
 }
 
-/// The character that is written as a backslash and these characters, and what is behind it.
-fn escape_at(text: &str) -> Option<(char, &str)> {
-    if let Some(rest) = text.strip_prefix('\\') {
-        return Some(('\\', rest));
+/// The next hexadecimal digit.
+fn digit_in(chars: &mut Chars) -> Option<u32>
+    ensures all { (n : ℕ) (behind : List ℕ) → n < 16
+        → chars_rest chars.old ≡ digit_glyph false n ∷ behind
+        → (result ≡ Some n) × (chars_rest chars.new ≡ behind) }
+    ensures digit { IfSome result (λ n. n < 16) }
+    ensures shorter { length (chars_rest chars.new) ≤ length (chars_rest chars.old) }
+{
+    chars.next()?.to_digit(16)
+}
+
+/// The character with the number that the next two digits are.
+fn numbered_in(chars: &mut Chars) -> Option<char>
+    ensures all { (c : ℕ) (behind : List ℕ) → spec.is_control c ≡ true
+        → chars_rest chars.old ≡ spec.two_digits c ++ behind
+        → (result ≡ Some c) × (chars_rest chars.new ≡ behind) }
+    ensures shorter { length (chars_rest chars.new) ≤ length (chars_rest chars.old) }
+{
+    let high = digit_in(chars)?;
+    let low = digit_in(chars)?;
+    char::from_u32(16 * high + low)
+}
+
+/// The character that is written as a backslash and the next characters.
+fn escape_in(chars: &mut Chars) -> Option<char>
+    ensures all { (c : ℕ) (behind : List ℕ)
+        → 92 ∷ chars_rest chars.old ≡ spec.escaped_char c ++ behind
+        → (result ≡ Some c) × (chars_rest chars.new ≡ behind) }
+    ensures shorter { length (chars_rest chars.new) ≤ length (chars_rest chars.old) }
+{
+    match chars.next()? {
+        '\\' => Some('\\'),
+        'n' => Some('\n'),
+        'r' => Some('\r'),
+        'x' => numbered_in(chars),
+        _ => None,
     }
-    if let Some(rest) = text.strip_prefix('n') {
-        return Some(('\n', rest));
+}
+
+/// The next character of a name in its text.
+fn char_in(chars: &mut Chars) -> Option<char>
+    ensures all { (c : ℕ) (behind : List ℕ)
+        → chars_rest chars.old ≡ spec.escaped_char c ++ behind
+        → (result ≡ Some c) × (chars_rest chars.new ≡ behind) }
+    ensures shorter { IfSome result (λ _.
+        length (chars_rest chars.new) < length (chars_rest chars.old)) }
+{
+    match chars.next()? {
+        '\\' => escape_in(chars),
+        c => Some(c),
     }
-    if let Some(rest) = text.strip_prefix('r') {
-        return Some(('\r', rest));
-    }
-    let digits = text.strip_prefix('x')?;
-    let code = u8::from_str_radix(digits.get(..2)?, 16).ok()?;
-    Some((char::from(code), digits.get(2..)?))
 }
 
 /// The characters of a text in which some are escaped, if each escape is one.
-fn parts<A: Allocator>(alloc: A, text: &str) -> Result<Option<String<A>>, AllocError> {
+fn parts<A: Allocator>(alloc: A, text: &str) -> Result<Option<String<A>>, AllocError>
+    ensures all { IfOk result (λ found. (name : List ℕ) → IsUtf8 name
+        → spec.escaped name ≡ text.now
+        → MatchOption found ⊥ (λ own. string_bytes own ≡ name)) }
+{
     let mut name = String::new(alloc);
-    let mut rest = text;
-    for _ in 0..text.len() {
-        let Some((plain, behind)) = rest.split_once('\\') else {
-            break;
-        };
-        let Some((c, after)) = escape_at(behind) else {
+    let mut chars = text.chars();
+    while !chars.as_str().is_empty() {
+        let Some(c) = char_in(&mut chars) else {
             return Ok(None);
         };
-        name.push_str(plain)?;
         name.push(c)?;
-        rest = after;
     }
-    name.push_str(rest)?;
     Ok(Some(name))
 }
 
@@ -128,6 +164,8 @@ pub fn unescaped<A: Allocator + Copy>(alloc: A, text: &str) -> Result<Option<Str
     ensures only { IfOk result (λ found. IfSome found (λ name.
         (other : List ℕ) → IsUtf8 other → spec.escaped other ≡ text.now
         → other ≡ string_bytes name)) }
+    ensures all { IfOk result (λ found. (name : List ℕ) → IsUtf8 name
+        → spec.escaped name ≡ text.now → IsSome found) }
 {
     let Some(name) = parts(alloc, text)? else {
         return Ok(None);

@@ -1,9 +1,11 @@
 //! `key --check`: the files of a list of keys, as `sha256sum -c` compares them.
 
-ghost use Rattle.std.specs.Prelude.{◌≡◌, ◌++◌, [], ◌∷◌, ℕ, List, length, IfOk, IfSome};
-ghost use Rattle.std.specs.{Prelude.string_bytes, Str.IsUtf8};
-ghost use Rattle.hex.specs.Hex.{IsBytes};
+ghost use Rattle.std.specs.Prelude.{◌≡◌, ◌≢◌, ◌++◌, [], ◌∷◌, if◌then◌else◌, ℕ, List, Bool, not};
+ghost use Rattle.std.specs.Prelude.{IfOk, IfSome, IsSome, MatchOption, codes, length, slice_index};
+ghost use Rattle.std.specs.{Prelude.string_bytes, Str.IsUtf8, Str.bytes_eq};
+ghost use Rattle.hex.specs.Hex.{IsBytes, encode_lower};
 ghost use Rattle.bpfcanon_object.specs.Answers.{IsRowAnswer, IsUnreadRowAnswer};
+ghost use Rattle.bpfcanon_object.specs.Escape.{escaped};
 ghost use Rattle.bpfcanon_object.specs.KeyLines as spec;
 
 use crate::answer::{Answer, Status, fault_answer, trouble_answer};
@@ -22,14 +24,29 @@ pub struct Row<A: Allocator = Global> {
     pub name: String<A>,
 }
 
-/// The digits of the key and the text of the name in a line, and whether the text is escaped.
-fn split_line(line: &str) -> Option<(&str, bool, &str)> {
-    let (is_escaped, rest) = match line.strip_prefix('\\') {
+/// Whether a line begins with a backslash, and what is behind it.
+fn split_mark(line: &str) -> (bool, &str)
+    ensures all { (plain : Bool) (rest : List ℕ) → slice_index rest 0 ≢ 92
+        → line.now ≡ (if plain then [] else codes "\\") ++ rest
+        → (result.0 ≡ not plain) × (result.1.now ≡ rest) }
+{
+    match line.strip_prefix('\\') {
         Some(rest) => (true, rest),
         None => (false, line),
-    };
-    let (digits, text) = rest.split_once("  ")?;
-    Some((digits, is_escaped, text))
+    }
+}
+
+/// The digits of the key and the text of the name in a line, and whether the text is escaped.
+fn split_line(line: &str) -> Option<(&str, bool, &str)>
+    ensures all { (key name : List ℕ) → IsBytes key → length key ≡ 32
+        → spec.key_line key name ≡ line.now ++ 10 ∷ []
+        → MatchOption result ⊥ (λ (digits, is_escaped, text).
+        (digits.now ≡ encode_lower key)
+        × ((is_escaped ≡ not (bytes_eq (escaped name) name)) × (text.now ≡ escaped name))) }
+{
+    let (is_escaped, rest) = split_mark(line);
+    let (digits, text) = rest.split_once(' ')?;
+    Some((digits, is_escaped, text.strip_prefix(' ')?))
 }
 
 /// The name that is written as a text, if there is one.
@@ -37,7 +54,11 @@ fn name_of<A: Allocator + Copy>(
     alloc: A,
     is_escaped: bool,
     text: &str,
-) -> Result<Option<String<A>>, AllocError> {
+) -> Result<Option<String<A>>, AllocError>
+    ensures all { IfOk result (λ found. (name : List ℕ) → IsUtf8 name
+        → is_escaped ≡ not (bytes_eq (escaped name) name) → text.now ≡ escaped name
+        → MatchOption found ⊥ (λ own. string_bytes own ≡ name)) }
+{
     if is_escaped {
         return unescaped(alloc, text);
     }
@@ -52,6 +73,8 @@ pub fn read_row<A: Allocator + Copy>(alloc: A, line: &str) -> Result<Option<Row<
         (key name : List ℕ) → IsBytes key → length key ≡ 32 → IsUtf8 name
         → spec.key_line key name ≡ line.now ++ 10 ∷ []
         → (key ≡ row.key) × (name ≡ string_bytes row.name))) }
+    ensures all { IfOk result (λ found. (key name : List ℕ) → IsBytes key → length key ≡ 32
+        → IsUtf8 name → spec.key_line key name ≡ line.now ++ 10 ∷ [] → IsSome found) }
 {
     let Some((digits, is_escaped, text)) = split_line(line) else {
         return Ok(None);
