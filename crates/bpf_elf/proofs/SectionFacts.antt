@@ -55,9 +55,6 @@ section_there b k some =
       | inr none ↦ omega (arith, none, some)
     ]
 
--- a section begins in the file
-pub begins_near : (b : List ℕ) (i : ℕ) → length b ≤ FILE_LIMIT → IsKnown b i → offset b i ≤ FILE_LIMIT
-begins_near b i short known = omega (arith, leb-true _ _ known.inside, short)
-
+-- the content of a section isn't longer than a file may be
 pub content_short : (b : List ℕ) (i : ℕ) → length b ≤ FILE_LIMIT → length (content b i) ≤ FILE_LIMIT
 content_short b i short = omega (arith, length-take (file_size b i) (drop (offset b i) b), length-drop (offset b i) b, short)
