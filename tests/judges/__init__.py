@@ -2,7 +2,6 @@
 
     "$(tests/python_with pytest elftools)" -B -m pytest -p no:cacheprovider -q tests/judges
 
-Canonical files are those of the reference, or of a program, if BPFCANON_OBJECT names one: `$BPFCANON_OBJECT canon FILE` prints a canonical file,
-or ends with status 1. CHANGED_OBJECTS is how many objects are changed (2000), and CHANGED_SEED what the changes depend on. At the end stands
-what each judge said, and of how many files.
+Canonical files are those of the built command; --object-program names another. CHANGED_OBJECTS is how many objects are changed (2000), and
+CHANGED_SEED what the changes depend on. At the end stands what each judge said, and of how many files.
 """

@@ -4,8 +4,6 @@ from __future__ import annotations
 
 import collections
 import contextlib
-import hashlib
-import os
 import subprocess
 from pathlib import Path
 from typing import Any, Callable, Iterable, Iterator
@@ -14,11 +12,9 @@ import pytest
 
 from tests.judges import loaders, objects
 from tests.needs import need
-from tests.reference import object_reference
 
 Canon = Callable[[bytes], bytes]
 Keys = Callable[[list[bytes]], list[str]]
-PROGRAM = os.environ.get("BPFCANON_OBJECT")
 Tally = dict[str, collections.Counter[str]]
 TALLY: Tally = collections.defaultdict(collections.Counter)
 
@@ -41,48 +37,35 @@ def folder(tmp_path_factory: pytest.TempPathFactory) -> Path:
 
 
 @pytest.fixture(scope="session")
-def canon(folder: Path) -> Canon:
-    """What gives the canonical file of an object, or raises Refused."""
+def canon(object_program: Path, folder: Path) -> Canon:
+    """What gives the canonical file of an object by the built command, or raises Refused."""
 
-    def by_reference(data: bytes) -> bytes:
-        try:
-            return object_reference.canonical(data)
-        except object_reference.Refused as refused:
-            raise Refused(str(refused)) from refused
-
-    def by_program(data: bytes) -> bytes:
+    def canon(data: bytes) -> bytes:
         path = folder / "input.o"
         path.write_bytes(data)
-        done = subprocess.run([str(PROGRAM), "canon", path], capture_output=True, check=False)
+        done = subprocess.run([object_program, "canon", path], capture_output=True, check=False)
         assert done.returncode in (0, 1), done.stderr
         if done.returncode:
             raise Refused(done.stderr.decode())
         return done.stdout
 
-    return by_program if PROGRAM else by_reference
+    return canon
 
 
 @pytest.fixture(scope="session")
-def keys(canon: Canon, folder: Path) -> Keys:
+def keys(object_program: Path, folder: Path) -> Keys:
     """What gives the keys of objects, which are the SHA-256 of their canonical files; that of a refused one is empty."""
 
-    def by_reference(batch: list[bytes]) -> list[str]:
-        found = [""] * len(batch)
-        for number, data in enumerate(batch):
-            with contextlib.suppress(Refused):
-                found[number] = hashlib.sha256(canon(data)).hexdigest()
-        return found
-
-    def by_program(batch: list[bytes]) -> list[str]:
+    def keys(batch: list[bytes]) -> list[str]:
         for number, data in enumerate(batch):
             (folder / f"{number}.o").write_bytes(data)
-        line = [str(PROGRAM), "key", *(f"{number}.o" for number in range(len(batch)))]
+        line = [object_program, "key", *(f"{number}.o" for number in range(len(batch)))]
         done = subprocess.run(line, cwd=folder, capture_output=True, text=True, check=False)
         assert done.returncode in (0, 1), done.stderr
         found = {name: key for key, _, name in (it.partition("  ") for it in done.stdout.splitlines())}
         return [found.get(f"{number}.o", "") for number in range(len(batch))]
 
-    return by_program if PROGRAM else by_reference
+    return keys
 
 
 @pytest.fixture(scope="session", params=loaders.NEEDED)
