@@ -1,4 +1,5 @@
-"""The object files that are judged: sources that clang compiles in several ways in both byte orders, those of cilium/ebpf, and the vectors."""
+"""The object files that are judged: sources that clang compiles in several ways in both byte orders, those of cilium/ebpf and of xdp-tools, and the
+vectors."""
 
 from __future__ import annotations
 
@@ -21,6 +22,8 @@ OTHERS: dict[str, tuple[str, ...]] = {
     **{f"testdata/objects/{it}.c": () for it in ("calls", "core", "data", "externs", "maps")},
     **dict.fromkeys(("examples/bazel/allow.c", "examples/bazel/deny.c", "tests/examples/two.c", "tests/objects/sources/kernel.c"), ()),
 }
+# Debian's libxdp1 has the programs of xdp-tools.
+XDP_TOOLS = Path("/usr/lib/x86_64-linux-gnu/bpf")
 # What tools make of an object; IN and OUT stand for both files. libbpf links only what has the byte order of the processor.
 TOOLS = {
     "stripped": ("llvm-strip", "-g", "IN", "-o", "OUT"),
@@ -60,7 +63,7 @@ def all_made() -> Iterator[Made]:
     kinds = re.findall(r"^#(?:el)?if defined\((\w+)\)", KINDS.read_text(), re.MULTILINE)
     singles = [*((TOP / path, flags) for path, flags in OTHERS.items()), *((KINDS, (f"-D{it}",)) for it in kinds)]
     yield from (Made(path, order, ("-g", "-mcpu=v3", *flags)) for path, flags in singles for order in ORDERS)
-    yield from map(Made, sorted(INSTALLED.glob("*.elf")))
+    yield from map(Made, sorted([*INSTALLED.glob("*.elf"), *XDP_TOOLS.glob("*.o")]))
     # cilium/ebpf refuses a part of .BTF.ext without records.
     accepted = (row.file for row in object_vectors.rows() if row.key and "no_parts" not in row.file)
     yield from (Made(object_vectors.FOLDER / file) for file in accepted)

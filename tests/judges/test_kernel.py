@@ -13,14 +13,15 @@ from typing import Any, Iterator
 import pytest
 
 from tests.judges.conftest import Canon, Tally, each
-from tests.judges.objects import all_made
+from tests.judges.objects import XDP_TOOLS, all_made
 from tests.needs import need
 
 CLONE_NEWNS = 0x20000
 PROGRAM = ("name", "type", "tag", "gpl_compatible", "bytes_xlated")
 MAP = ("name", "type", "flags", "bytes_key", "bytes_value", "max_entries")
 # The kernel refuses the other byte order, and loads of a copy what it loads of the first.
-LOADABLE = [it for it in all_made() if it.order == "little" and it.tool in ("", "linked") or it.source.name.endswith("-el.elf")]
+INSTALLED = [it for it in all_made() if it.source.name.endswith("-el.elf") or it.source.parent == XDP_TOOLS]
+LOADABLE = [*(it for it in all_made() if it.order == "little" and it.tool in ("", "linked")), *INSTALLED]
 
 
 @pytest.fixture(scope="session")
