@@ -2,9 +2,16 @@
 
 from __future__ import annotations
 
+from tests import object_vectors
 from tests.judges.conftest import Canon, Tally, each
 from tests.judges.loaders import Loader, is_accepted
 from tests.judges.objects import all_made
+
+
+def test_loader_loads(loader: Loader) -> None:
+    """A loader that refuses all objects, because the stand-in for bpf(2) lacks a call of it, would tell no two apart."""
+    view = loader.view((object_vectors.FOLDER / "packet_filter.little.typed.o").read_bytes())
+    assert is_accepted(view) and (loader.name == "cilium" or b"\nload 0\n" in view)
 
 
 @each(all_made())

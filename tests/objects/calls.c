@@ -1,3 +1,4 @@
+#define _GNU_SOURCE
 #include "calls.h"
 
 #include <errno.h>
@@ -5,12 +6,13 @@
 #include <stdint.h>
 #include <stdlib.h>
 #include <string.h>
+#include <sys/mman.h>
 #include <unistd.h>
 
 #include "types.h"
 #include "view.h"
 
-enum { FIRST_DESCRIPTOR = 16, MAX_DESCRIPTORS = 1024 };
+enum { FIRST_DESCRIPTOR = 16, MAX_DESCRIPTORS = 1024, MAPPED = 1 << 20 };
 
 /* The sizes of a map's keys and values, by the descriptor of the map: an update has only pointers. */
 static struct {
@@ -28,11 +30,11 @@ static const void *pointer(uint64_t address)
 	return (const void *)(uintptr_t)address;
 }
 
-/* libbpf replaces descriptors below 3, of which it may have closed some, by others. */
+/* libbpf replaces descriptors below 3, of which it may have closed some, by others, and maps the memory of data. */
 static int new_descriptor(void)
 {
-	int opened = open("/dev/null", O_RDONLY | O_CLOEXEC);
-	int descriptor = opened < 0 ? opened : fcntl(opened, F_DUPFD_CLOEXEC, FIRST_DESCRIPTOR);
+	int opened = memfd_create("map", MFD_CLOEXEC);
+	int descriptor = opened < 0 || ftruncate(opened, MAPPED) ? -1 : fcntl(opened, F_DUPFD_CLOEXEC, FIRST_DESCRIPTOR);
 
 	if (opened >= 0)
 		close(opened);
@@ -72,6 +74,12 @@ static int create_map(const union bpf_attr *attr, unsigned size)
 		maps[descriptor].value = attr->value_size;
 	}
 	return descriptor;
+}
+
+void record_copy(int from, int to)
+{
+	if (from >= 0 && from < MAX_DESCRIPTORS && to >= 0 && to < MAX_DESCRIPTORS)
+		maps[to] = maps[from];
 }
 
 static int update_element(const union bpf_attr *attr)

@@ -7,4 +7,7 @@
 /* Records a call. Returns what bpf(2) would, with errno if that is -1. */
 int record_call(int command, const union bpf_attr *given, unsigned size);
 
+/* Another descriptor of a map. */
+void record_copy(int from, int to);
+
 #endif

@@ -19,6 +19,7 @@ static void *types;
 static uint32_t types_size;
 
 /* The linker replaces what libbpf calls by these (--wrap). */
+long __real_syscall(long number, ...);
 long __wrap_syscall(long number, ...);
 FILE *__wrap_fopen64(const char *path, const char *mode);
 void *__wrap_gzopen64(const char *path, const char *mode);
@@ -26,23 +27,39 @@ void *__real_gzopen64(const char *path, const char *mode);
 struct btf *__wrap_btf__load_vmlinux_btf(void);
 int __wrap_mkdir(const char *path, unsigned mode);
 
+/* libbpf 1.4 and later reserve the descriptors of maps, and move there those of the maps that are created. */
+static long reserve(const char *name, unsigned flags)
+{
+	return __real_syscall(SYS_memfd_create, name, flags);
+}
+
+static long move(int from, int to, int flags)
+{
+	record_copy(from, to);
+	return __real_syscall(SYS_dup3, from, to, flags);
+}
+
 long __wrap_syscall(long number, ...)
 {
-	const union bpf_attr *attributes;
 	va_list arguments;
-	unsigned size;
-	int command;
+	long words[3];
+	unsigned i;
 
-	if (number != SYS_bpf) {
+	va_start(arguments, number);
+	for (i = 0; i < sizeof words / sizeof *words; i++)
+		words[i] = va_arg(arguments, long);
+	va_end(arguments);
+	switch (number) {
+	case SYS_bpf:
+		return record_call((int)words[0], (const union bpf_attr *)words[1], (unsigned)words[2]);
+	case SYS_memfd_create:
+		return reserve((const char *)words[0], (unsigned)words[1]);
+	case SYS_dup3:
+		return move((int)words[0], (int)words[1], (int)words[2]);
+	default:
 		errno = ENOSYS;
 		return -1;
 	}
-	va_start(arguments, number);
-	command = va_arg(arguments, int);
-	attributes = va_arg(arguments, const union bpf_attr *);
-	size = va_arg(arguments, unsigned);
-	va_end(arguments);
-	return record_call(command, attributes, size);
 }
 
 FILE *__wrap_fopen64(const char *path, const char *mode)
