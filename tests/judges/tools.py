@@ -32,4 +32,4 @@ def ask(line: tuple[str, ...], content: bytes, folder: Path) -> Said:
 
 def without_file(skeleton: str) -> str:
     """A skeleton without the object file that it contains."""
-    return re.sub(r"\*sz = \d+;|return \(const void \*\)\".*?\";", "", skeleton, flags=re.DOTALL)
+    return re.sub(r"\*sz = \d+;|(return \(const void \*\)|data\[\] __attribute__\S+ = )\".*?\";", "", skeleton, flags=re.DOTALL)
