@@ -27,7 +27,7 @@ void *__real_gzopen64(const char *path, const char *mode);
 struct btf *__wrap_btf__load_vmlinux_btf(void);
 int __wrap_mkdir(const char *path, unsigned mode);
 
-/* libbpf 1.4 and later reserve the descriptors of maps, and move there those of the maps that are created. */
+/* libbpf 1.5 and later reserve the descriptors of maps, and move there those of the maps that are created. */
 static long reserve(const char *name, unsigned flags)
 {
 	return __real_syscall(SYS_memfd_create, name, flags);

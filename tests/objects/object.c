@@ -33,7 +33,7 @@ static void view_program(const struct bpf_program *program)
 static void view_map(struct bpf_map *map)
 {
 	size_t size = 0;
-	bool has_addresses = bpf_map__type(map) == BPF_MAP_TYPE_STRUCT_OPS; /* since libbpf 1.4, those of its programs */
+	bool has_addresses = bpf_map__type(map) == BPF_MAP_TYPE_STRUCT_OPS; /* in libbpf 1.5 and later, those of its programs */
 	const void *value = has_addresses ? NULL : bpf_map__initial_value(map, &size);
 
 	view_text("map");
