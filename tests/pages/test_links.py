@@ -80,7 +80,7 @@ def test_readme(page):
 def test_names():
     """Each name in code on the pages about the sources is in the sources, or is that of a file."""
     known = {name for path in files_of(*SOURCES) for name in re.findall(r"\w+", path.read_text(errors="replace"))}
-    known |= {path.stem for path in [*TOP.glob("crates/*/must-fail/*.edit"), *TOP.iterdir()]}
+    known |= {path.stem for path in [*TOP.glob("crates/*"), *TOP.glob("crates/*/*/*.edit"), *TOP.iterdir()]}
     for page in ON_SOURCES:
         text = BLOCK.sub("", (TOP / "docs" / f"{page}.md").read_text())
         for name in sorted(it for it in set(NAME.findall(text)) - NO_NAMES if not it.startswith(OF_KIT)):

@@ -51,7 +51,7 @@ def wrong_lines(source):
     return [(number + 1, line) for number, line in enumerate(lines) if NAME.search(line) and not is_passed_on(lines, number)]
 
 
-FILES = [path for path in sorted(CRATES.glob("*/src/**/*.rt")) if "/tests" not in str(path.relative_to(CRATES))]
+FILES = [path for path in sorted(CRATES.glob("*/src/**/*.rt")) if "tests" not in str(path.relative_to(CRATES))]
 INVENTED = """\
         return Err(BtfError::Memory); // ≡
     Memory,

@@ -24,8 +24,6 @@ mod btf;
 mod device;
 mod engine;
 mod insn;
-#[cfg(test)]
-mod tests;
 
 pub use bpf_insn::{InsnError, Order, first_fault};
 pub use btf::btf_laws;

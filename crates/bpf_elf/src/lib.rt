@@ -16,8 +16,6 @@ mod relocations;
 mod section_checks;
 mod sections;
 mod symbols;
-#[cfg(test)]
-mod tests;
 
 pub use elf::Elf;
 pub use fault::{ElfCause, ElfFault};

@@ -50,8 +50,6 @@ mod section_writer;
 mod source;
 mod source_lines;
 mod symbol_rows;
-#[cfg(test)]
-mod tests;
 mod type_checks;
 mod types;
 mod types_writer;

@@ -6,8 +6,6 @@
 pub mod laws;
 mod order_name;
 mod slot;
-#[cfg(test)]
-mod tests;
 mod words;
 
 pub use order_name::ParseOrderError;
