@@ -1,7 +1,7 @@
 # make            the commands and the C library, proved and built (15 to 25 minutes at first), in out/prefix
 # make demo       the main job on an example, unproved, in a minute; make demo-proved proves it first
-# make check      all proofs and tests (over two hours on 4 processors); make check-quick what needs seconds and no proof;
-#                 make check-tests the tests of what is built
+# make check      all proofs, mutations and tests (about an hour on 4 processors); make check-quick what needs seconds and no proof;
+#                 make mutations tries the mutations that have changed; make check-tests the tests of what is built
 # make install    what is built, into PREFIX (and DESTDIR), with libraries in LIBDIR; make uninstall removes it
 # make tools      what the tests need from Debian, as root. CI is `CI=true make tools check` (.ci/run): a test that is skipped for want of
 #                 a tool then fails if apt has the tool
@@ -19,6 +19,9 @@ PROGRAMS = bpfcanon bpfcanon_object
 COMMANDS = $(foreach it,$(PROGRAMS),crates/$(it)/out/$(it))
 ARCHIVE = crates/bpfcanon_c/out/libbpfcanon_c.a
 RELEASE_LOGS = out/aarch64.log $(PROGRAMS:%=out/%.log)
+# The crates whose mutations are tried together, each after those that it uses.
+MUTATED = btf_raw bpf_elf bpf_insn btf_types bpf_canon bpf_text bpfcanon bpf_object bpfcanon_c bpfcanon_object
+MUTATIONS = $(MUTATED:%=out/mutations.%.log)
 LIBRARY = out/prefix/include/bpfcanon.h
 PACKAGES = $(shell sed 's/^\#.*//; s/ .*//' tests/packages.txt)
 export SOURCE_DATE_EPOCH ?= $(shell git log -1 --format=%ct)
@@ -26,8 +29,8 @@ export PYTHONDONTWRITEBYTECODE = 1
 export RT_JOBS ?= $(WORKERS)
 $(shell mkdir -p out)
 
-.PHONY: all demo demo-proved check check-quick check-tests check-c check-release prove record release-objects lint tools written install uninstall
-.PHONY: dist clean FORCE
+.PHONY: all demo demo-proved check check-quick prove beside mutations release-objects tested check-tests check-c check-built record check-release
+.PHONY: lint tools written install uninstall dist clean FORCE
 all: $(COMMANDS) $(LIBRARY)
 
 # --- what Rattle builds: it knows itself what is new
@@ -36,7 +39,7 @@ crates/bpfcanon/out/bpfcanon: FORCE
 crates/bpfcanon_object/out/bpfcanon_object: FORCE
 	cd crates/bpfcanon_object && rt run -- --version
 $(ARCHIVE): FORCE
-	capi/archive --keep 2>&1 | tee -a out/archive.log
+	capi/archive --keep $(WAITS) 2>&1 | tee -a out/archive.log
 FORCE:
 
 demo demo-proved: DATA = ../../testdata/packet_filter
@@ -57,33 +60,55 @@ uninstall:
 	ninja -C out/meson uninstall
 
 # --- tests. The parts end with the first that fails; then the seconds of each, and what the runners counted
-PARTS = check-quick prove check-tests record check-release
+# rt ci refuses links, which meson makes.
+BUILT = crates/*/out/rlib crates/bpfcanon_c/out/libbpfcanon_c*.a out/meson out/sanitized out/thread out/prefix
 check: | $(filter tools,$(MAKECMDGOALS))
-	@rm -f out/*.log out/seconds; status=0; for part in $(PARTS); do began=$$SECONDS; $(MAKE) $$part || status=$$?; \
-	echo "$$part: $$((SECONDS - began)) s" >> out/seconds; [ $$status = 0 ] || break; done; cat out/seconds; \
-	grep -shaE 'NOT REFUSED|BAD EDIT|NOT PROVED|tests FAILED|had not ended|^(rt: )?FAILED' out/rt_ci.log; \
-	grep -shaE '[0-9]+ (passed|failed|skipped)' out/quick.log out/rt_ci.log out/tests.log out/release.log | sed 's/^=* //; s/ =*$$//' > out/summary; cat out/summary; exit $$status
+	@rm -rf out/*.log out/seconds out/proved out/kept $(BUILT)
+	@status=0; for parts in check-quick "prove beside" record check-release; do \
+	$(MAKE) -j 2 timed-$${parts// / timed-} || { status=$$?; break; }; done; cat out/seconds; \
+	grep -shaE 'NOT REFUSED|BAD (EDIT|MUTATION)|NOT PROVED|tests FAILED|had not ended|^(rt: )?FAILED' out/rt_ci.log out/mutations.*.log; \
+	grep -shaE '[0-9]+ (passed|failed|skipped)' out/quick.log out/rt_ci.log out/mutations.*.log out/tests.log out/release.log | sed 's/^=* //; s/ =*$$//' > out/summary; \
+	cat out/summary; exit $$status
+timed-%:
+	@began=$$SECONDS; $(MAKE) $*; status=$$?; echo "$*: $$((SECONDS - began)) s" >> out/seconds; exit $$status
 
 check-quick: lint
 	$(PYTHON) -m pytest -q -m quick | tee out/quick.log
 
 # A mutation that can't be applied shows nothing, and rt ci lets it pass. After its run rt ci puts the libraries of earlier checks back in
-# place of those that it proved, which the archive is made over.
+# place of those that it proved, which the archive is made over. Where earlier runs kept proofs few are left, and rt gives each of them several
+# processors unless RT_JOBS says how many are tried side by side.
+KEPT = $(wildcard $(dir $(shell rt doc))../rattle-kept/proof-*)
 prove:
-	rm -rf out/PROVED.txt crates/*/out/rlib crates/bpfcanon_c/out/libbpfcanon_c*.a
+	rm -rf out/proved out/rt_ci.log out/PROVED.txt $(BUILT)
 	for crate in $(PROGRAMS) bpfcanon_c; do capi/sources $$crate; done > out/sources
-	rt ci 2>&1 | tee out/rt_ci.log && ! grep -qa 'BAD EDIT' out/rt_ci.log
+	$(if $(KEPT),env -u RT_JOBS) rt ci 2>&1 | tee out/rt_ci.log; status=$$?; touch out/proved; ! grep -qa 'BAD EDIT' out/rt_ci.log && exit $$status
 
-# What else a release needs is made meanwhile, each with its verdict: the archive for ARM, and the objects of the programs.
-check-tests:
-	$(MAKE) -j $(RT_JOBS) --output-sync=target release-objects check-c check-built
+# While rt ci runs: what needs its libraries or its programs waits for each of them. As many checks side by side as memory holds.
+BESIDE = $(shell expr $(RT_JOBS) / 2 + 1)
+beside:
+	$(MAKE) -j $(BESIDE) --output-sync=target WAITS=--beside $(MUTATIONS) tested
+mutations:
+	$(MAKE) -j $(RT_JOBS) --output-sync=target $(MUTATIONS)
+$(MUTATIONS): out/mutations.%.log: FORCE
+	nice tools/mutations.py $(WAITS) $* 2>&1 | tee $@
+# A check of a crate begins with what the one before kept.
+$(PROGRAMS:%=out/mutations.%.log): out/mutations.%.log: out/%.log
+out/mutations.bpfcanon_c.log: out/aarch64.log
+
+# What else a release needs, each with its verdict: the archive for ARM, and the objects of the programs.
+release-objects: $(RELEASE_LOGS)
+out/aarch64.log: $(ARCHIVE)
+	nice capi/archive --keep $(WAITS) aarch64 2>&1 | tee $@
+$(PROGRAMS:%=out/%.log): out/%.log: FORCE
+	nice packaging/program.py $(WAITS) $* 2>&1 | tee $@
+
+tested: $(ARCHIVE)
+	for it in $(PROGRAMS); do until grep -qaE "^rt: $$it (proved$$|is kept:)" out/rt_ci.log; do [ ! -e out/proved ] && sleep 1 || exit 1; done; done
+	$(MAKE) WAITS= check-tests
+check-tests: check-c check-built
 check-built: | check-c
 	$(PYTEST) -m "not quick and not release" --prefix=$(CURDIR)/out/prefix | tee out/tests.log
-release-objects: $(if $(wildcard out/rt_ci.log),$(RELEASE_LOGS))
-out/aarch64.log: FORCE
-	capi/archive --keep aarch64 2>&1 | tee $@
-$(PROGRAMS:%=out/%.log): out/%.log: FORCE
-	packaging/program.py $* 2>&1 | tee $@
 
 # The calls from C: as they are, under valgrind, and under sanitizers.
 check-c: $(LIBRARY)
@@ -97,7 +122,7 @@ check-c: $(LIBRARY)
 # What was proved, and the hashes of what was built of it, unless the sources have changed since. A release needs this.
 record:
 	for crate in $(PROGRAMS) bpfcanon_c; do capi/sources $$crate; done | cmp - out/sources
-	$(PYTHON) packaging/proved.py out/rt_ci.log out/archive.log $(RELEASE_LOGS) > out/PROVED.txt || { rm out/PROVED.txt; exit 1; }
+	$(PYTHON) packaging/proved.py out/rt_ci.log out/archive.log $(RELEASE_LOGS) $(MUTATIONS) > out/PROVED.txt || { rm out/PROVED.txt; exit 1; }
 check-release:
 	$(PYTHON) -m pytest -q -m release --durations=5 | tee out/release.log
 
@@ -111,7 +136,7 @@ lint:
 	for it in $$(git ls-files -s | sed -n 's/^100755.*\t//p'); do case $$(head -1 $$it) in *bash*|*/sh) bash -n $$it || exit 1;; esac; done
 	! command -v gofmt > out/found || test -z "$$(gofmt -l bindings/go examples tests | tee /dev/stderr)"
 	! command -v rustfmt > out/found || rustfmt --edition 2021 --config-path bindings/rust --check $$(git ls-files 'bindings/rust/*.rs' 'examples/*.rs')
-	! command -v mypy > out/found || { MYPYPATH=capi mypy --strict --cache-dir=out/mypy packaging/*.py && cd bindings/python && mypy --cache-dir=$(CURDIR)/out/mypy; }
+	! command -v mypy > out/found || { MYPYPATH=capi mypy --strict --cache-dir=out/mypy packaging/*.py tools/mutations.py && cd bindings/python && mypy --cache-dir=$(CURDIR)/out/mypy; }
 	! command -v codespell > out/found || codespell -q 3 -L crate README.md docs examples
 
 # The files, and parts of files, that tools/ writes of others: all of it after a change of what they read.

@@ -1,10 +1,10 @@
 #!/usr/bin/env python3
 """Proves a program and compiles it to an object, which packaging/dist.py links.
 
-usage: packaging/program.py NAME
+usage: packaging/program.py [--beside] NAME
 
-The object is crates/NAME/out/NAME.o. rt ci has left the same one there, but it doesn't print all functions of C on whose contracts the
-verdict rests, which a release has to name (packaging/proved.py).
+The object is out/NAME.o. rt ci makes the same one, but it doesn't print all functions of C on whose contracts the verdict rests, which a
+release has to name (packaging/proved.py).
 """
 
 from __future__ import annotations
@@ -22,10 +22,12 @@ from tree import PROGRAMS  # noqa: E402
 def main() -> int:
     programs = {it.crate: it for it in PROGRAMS}
     parser = argparse.ArgumentParser(description=(__doc__ or "").splitlines()[0])
+    parser.add_argument("--beside", action="store_true", help="wait for the libraries of rt ci, which runs at the same time")
     parser.add_argument("name", choices=programs)
-    program = programs[parser.parse_args().name]
+    given = parser.parse_args()
+    program = programs[given.name]
     try:
-        compile_crate(program.crate, "x86_64", program.object)
+        compile_crate(program.crate, "x86_64", program.object, given.beside)
     except (Failed, OSError) as reason:
         print(f"packaging/program.py: {reason}", file=sys.stderr)
         return 1

@@ -19,12 +19,14 @@ UNVERIFIED = "Not verified: these files were made from a tree that make check ha
 MEANING = """\
 Passed by make check. A line with logic=proved is a verdict of the prover: each function of the crate
 meets its contract. The lines above it that end in "reached" name the functions of C whose contracts
-it assumes (docs/TRUST.md of the sources). The programs and the archives of a release are compiled
-from these sources for x86-64 (target=x86_64-unknown-linux-gnu), and the C library for 64-bit ARM
-from the same ones (target=aarch64-unknown-linux-gnu); a verdict with a target is that of such a
-build. What is compiled is the code that was proved. The compiler, LLVM, isn't proved, for either
-processor, and neither is the C around the calls of the library. All tests run on x86-64. For 64-bit
-ARM those of the C library run under an emulator (tests/released, with qemu).
+it assumes (docs/TRUST.md of the sources). Each verdict stands below the log that it is from. Those of
+rt_ci.log were proved from nothing, in this run or, of a crate that "is kept", in an earlier one on
+the same machine and of the same files. The others are of what a release has: the programs and the
+archive for x86-64 (target=x86_64-unknown-linux-gnu), and the archive for 64-bit ARM
+(target=aarch64-unknown-linux-gnu). They are compiled from the same sources, over what a check of the
+same run kept (incremental=trusted). The compiler, LLVM, isn't proved, for either processor, and
+neither is the C around the calls of the library. All tests run on x86-64. For 64-bit ARM those of
+the C library run under an emulator (tests/released, with qemu).
 """
 
 
@@ -39,10 +41,20 @@ def sources() -> list[str]:
     return [f"{run(TOP / 'capi' / 'sources', crate).strip()}  sources of {crate}" for crate in crates]
 
 
+def verdicts(log: pathlib.Path) -> list[str]:
+    """What a log says of each crate, below the name of the log. Of a log that was cut, or has a mutation that wasn't refused, there is none."""
+    lines = log.read_text(errors="replace").splitlines()
+    crate = re.fullmatch(r"mutations\.(\w+)\.log", log.name)
+    if crate:
+        count = len(list((TOP / "crates" / crate[1] / "mutations").glob("*.edit")))
+        if not count or not lines or lines[-1] != f"{count} passed, 0 failed":
+            raise Refused(f"{log.name} doesn't say that all {count} mutations of {crate[1]} are refused")
+    found = [line for line in lines if re.search(r"^== |logic=proved|\sreached$|^rt: \w+ is kept:|tried in this run|\d+ passed, \d+ failed", line)]
+    return [f"\n{log.name}:", *found] if found else []
+
+
 def record(logs: list[pathlib.Path]) -> str:
-    lines = [line for log in logs for line in log.read_text(errors="replace").splitlines()]
-    verdicts = [line for line in lines if re.search(r"logic=proved|\sreached$|\d+ passed, \d+ failed", line)]
-    return "\n".join([MEANING, *sources(), *sums(BUILT), f"kit {run('rt', 'version').strip()}", *verdicts, ""])
+    return "\n".join([MEANING, *sources(), *sums(BUILT), f"kit {run('rt', 'version').strip()}", *(line for log in logs for line in verdicts(log)), ""])
 
 
 def check() -> str:
@@ -60,4 +72,7 @@ def check() -> str:
 if __name__ == "__main__":
     if len(sys.argv) < 2:
         sys.exit(__doc__)
-    print(record(list(map(pathlib.Path, sys.argv[1:]))), end="")
+    try:
+        print(record(list(map(pathlib.Path, sys.argv[1:]))), end="")
+    except Refused as reason:
+        sys.exit(f"packaging/proved.py: {reason}")

@@ -25,8 +25,8 @@ class Program(NamedTuple):
 
     @property
     def object(self) -> pathlib.Path:
-        """What rt links it from."""
-        return self.built.with_suffix(".o")
+        """What a release links it from."""
+        return TOP / "out" / f"{self.crate}.o"
 
 
 PROGRAMS = [Program("bpfcanon"), Program("bpfcanon_object")]
