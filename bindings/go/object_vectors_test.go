@@ -103,13 +103,16 @@ func TestFaultyObjects(t *testing.T) {
 			want := bpfcanon.FaultError{Cause: objectCause(row.fields[2]), Offset: pos}
 			_, canonicalErr := objects.Canon(data)
 			_, keyErr := objects.Key(data)
-			_, sameErr := objects.Same(data, good)
+			same, sameErr := objects.Same(data, good)
 			for _, err := range []error{canonicalErr, keyErr, sameErr, objects.Check(data)} {
 				wantFault(t, row.file, err, want)
 			}
-			_, err = objects.Same(good, data)
+			sameSecond, err := objects.Same(good, data)
 			want.Second = true
 			wantFault(t, row.file, err, want)
+			if same || sameSecond {
+				t.Errorf("beside the error: same %v, %v as the second", same, sameSecond)
+			}
 		})
 	}
 }

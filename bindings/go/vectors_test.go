@@ -172,12 +172,15 @@ func TestFaultyInstructions(t *testing.T) {
 			wantFault(t, row[0], err, want)
 			_, err = bpfcanon.DecodeInsns(order, program)
 			wantFault(t, row[0], err, want)
-			_, err = bpfcanon.SameInsns(order, program, order, nil)
+			same, err := bpfcanon.SameInsns(order, program, order, nil)
 			wantFault(t, row[0], err, want)
 			second := want
 			second.Second = true
-			_, err = bpfcanon.SameInsns(order, nil, order, program)
+			sameSecond, err := bpfcanon.SameInsns(order, nil, order, program)
 			wantFault(t, row[0], err, second)
+			if same || sameSecond {
+				t.Errorf("%s, beside the error: same %v, %v as the second", row[0], same, sameSecond)
+			}
 		}
 	})
 }
@@ -245,12 +248,15 @@ func TestFaultyTypes(t *testing.T) {
 			wantFault(t, row[0], err, want)
 			_, err = bpfcanon.DecodeBTF(given)
 			wantFault(t, row[0], err, want)
-			_, err = bpfcanon.SameBTF(given, good)
+			same, err := bpfcanon.SameBTF(given, good)
 			wantFault(t, row[0], err, want)
 			second := want
 			second.Second = true
-			_, err = bpfcanon.SameBTF(good, given)
+			sameSecond, err := bpfcanon.SameBTF(good, given)
 			wantFault(t, row[0], err, second)
+			if same || sameSecond {
+				t.Errorf("%s, beside the error: same %v, %v as the second", row[0], same, sameSecond)
+			}
 		}
 	})
 }

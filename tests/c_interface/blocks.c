@@ -163,10 +163,10 @@ static void try_files(const char *folder)
 	}
 }
 
-/* FLOATs with one 100,000-byte name, so that the listing is 40 times as long as the file: it doesn't fit into the first block. */
-static void try_long_names(void)
+/* FLOATs with one long name, so that the listing doesn't fit into the first block, which has 4 times the length of the file. */
+static void try_long_name(uint32_t floats, uint32_t letters)
 {
-	const uint32_t letters = 100000, types = 40 * 12, len = 24 + types + letters + 2;
+	const uint32_t types = floats * 12, len = 24 + types + letters + 2;
 	const uint32_t header[] = { 0x0001eb9f, 24, 0, types, types, letters + 2 }, record[] = { 1, 0x10000000, 8 };
 	uint8_t *file = allocate(len);
 
@@ -190,6 +190,8 @@ int main(int argc, char **argv)
 	TRY(OBJECT_CALLS, (const uint8_t *)&OBJECT, sizeof OBJECT, 0, 0);
 	TRY(OBJECT_CALLS, (const uint8_t *)&OBJECT, sizeof OBJECT - 1, 0, 0);
 	try_files(argv[1]);
-	try_long_names();
+	try_long_name(40, 100000);
+	/* A listing of 1,325 bytes of a file of 331: one more than the first block. */
+	try_long_name(5, 245);
 	return end("blocks");
 }
