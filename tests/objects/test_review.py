@@ -2,27 +2,29 @@
 
 from __future__ import annotations
 
+import argparse
 import hashlib
 import importlib
 import os
 import re
 import resource
+import shutil
 import subprocess
-import sys
-from dataclasses import dataclass
+import time
 from pathlib import Path
-from typing import Any, Callable
+from typing import Any, Iterator
 
 import pytest
 
-from tests import TOP
-from tests.command import SECONDS
+from tests import TOP, object_vectors
 from tests.judges.test_pairs import PAIRS, edited
 from tests.needs import need
 from tests.objects.bases import all_bases, compile_source
+from tests.objects.btf_changes import btf_of, set_btf
 from tests.objects.changes import Base, changed
+from tests.objects.conftest import Review, Run
 from tests.objects.elf_file import ElfFile
-from tests.objects.known import DIFFERENCES, Known, objects_of
+from tests.objects.known import DIFFERENCES, Edit, Known, added, exchanged, objects_of, section, section_named, symbol
 from tests.reference import object_reference
 
 COMPILED = TOP / "bindings" / "python" / "tests" / "compiled"
@@ -36,40 +38,11 @@ def compiled(name: str, order: str) -> bytes:
     return (COMPILED / f"{name}.{order}.elf").read_bytes()
 
 
-@dataclass(frozen=True)
-class Review:
-    """The package, over the C library."""
-
-    package: Any
-
-    def module(self, name: str) -> Any:
-        return importlib.import_module(f"bpfcanon.review.{name}")
-
-    def accepted(self, data: bytes) -> Any:
-        """The object file, or None if it is refused."""
-        try:
-            return self.module("accepted").Accepted(data)
-        except self.package.FaultError:
-            return None
-
-    def lines(self, object: Any, title: str) -> list[str]:
-        """The lines of a part."""
-        (found,) = (it for it in self.module("parts").parts(object) if it.title == title)
-        return [it.text.strip() for it in found.lines]
-
-    def text(self, object: Any) -> str:
-        """All that is shown except the key, which would hide what is missing."""
-        lines = (line for it in self.module("parts").parts(object) for line in (it.title, *(one.text for one in it.lines)))
-        return "\n".join(it for it in lines if not it.startswith("\tkey="))
-
-    def changes(self, old: Any, new: Any) -> dict[str, list[str]]:
-        """The lines of each change."""
-        return {it.text: list(it.lines) for it in self.module("compare").compare(old, new)}
-
-
-@pytest.fixture(scope="session")
-def review(bpfcanon: Any) -> Review:
-    return Review(bpfcanon)
+def edit(data: bytes, change: Edit) -> bytes:
+    """An object file after a change."""
+    file = ElfFile.read(data)
+    change(file)
+    return bytes(file.write())
 
 
 @pytest.fixture(scope="session")
@@ -177,16 +150,39 @@ def test_source_lines(order: str, flows: Any, review: Review) -> None:
     assert review.changes(flows, flows) == {}
 
 
-@pytest.fixture(scope="session")
-def run(prefix: Path) -> Callable[..., subprocess.CompletedProcess[bytes]]:
-    """Runs the command."""
-    own = {"BPFCANON_LIBRARY": f"{prefix}/lib/libbpfcanon.so.0", "PYTHONPATH": f"{TOP}/bindings/python"}
-    line = [sys.executable, "-B", "-m", "bpfcanon.review"]
-    return lambda *words, **how: subprocess.run([*line, *words], **{"env": os.environ | own, "capture_output": True, "timeout": SECONDS} | how)
-
-
-Run = Callable[..., "subprocess.CompletedProcess[bytes]"]
 FLOWS, CHANGED = (COMPILED / f"{name}.little.elf" for name in ("flows", "changed"))
+
+
+def test_section_more(order: str, flows: Any, review: Review) -> None:
+    other = review.accepted(edit(compiled("flows", order), added(b".data.more", b"more")))
+    for objects, word, sign in ((flows, other), "added", "+"), ((other, flows), "removed", "-"):
+        found = review.changes(*objects)
+        assert found[f"{word} data .data.more <unnamed>"] == ["@@ -1 +1 @@", f"{sign}\t6d 6f 72 65  |more|"]
+
+
+def test_other_sequence(order: str, flows: Any, review: Review) -> None:
+    """The key differs too, which doesn't say why."""
+    found = review.changes(flows, review.accepted(edit(compiled("flows", order), exchanged(b".data", b"license"))))
+    assert [*found] == ["changed file header", "changed sequence"]
+    assert "-section license" in found["changed sequence"] and "+section license" in found["changed sequence"]
+
+
+PASS = (object_vectors.FOLDER / "pass.little.plain.o").read_bytes()
+
+
+def test_instructions_before_the_first_function(review: Review) -> None:
+    object = review.accepted(edit(PASS, symbol(b"pass", value=8, size=8)))
+    assert review.lines(object, "function xdp <unnamed>") == ["mov r0, 2"]
+    assert review.lines(object, "function xdp pass") == ["exit"]
+
+
+def test_labels_past_nine(review: Review) -> None:
+    """Each jump goes to the instruction after it."""
+    code = bytes.fromhex("15 00 00 00 00 00 00 00") * 12 + bytes.fromhex("95 00 00 00 00 00 00 00")
+    lines = review.lines(review.accepted(edit(PASS, section(b"xdp", content=bytearray(code)))), "function xdp pass")
+    assert lines == [*(line for it in range(1, 13) for line in (f"jeq r0, 0, L{it}", f"L{it}:")), "exit"]
+    names = review.module("labels").Labels()
+    assert [names.next("it") for _ in range(11)] == ["it", *(f"it#{number}" for number in range(2, 12))]
 
 
 def test_digests(run: Run) -> None:
@@ -205,6 +201,34 @@ def test_statuses(run: Run, tmp_path: Path) -> None:
     assert [bool(it.stderr) for it in done] == [False, False, True, False, True, True]
     assert done[0].stdout == b"" and done[4].stdout.count(b"flows.little.elf") == 3
     assert done[2].stderr == b"bpfcanon-review: none: No such file or directory\n"
+
+
+SIDES = {"old": 1, "new": 2}
+
+
+@pytest.mark.needs("clang")
+@pytest.mark.parametrize("name, title", [(b"two", "two two"), (b"one", "one#2 two")])
+def test_source_lines_of_each_section(name: bytes, title: str, review: Review, tmp_path: Path) -> None:
+    """Each file and section has its own lines. Of two sections with one name, .BTF.ext is about the first."""
+    objects, lines = [], []
+    for side, value in SIDES.items():
+        path, out = tmp_path / f"{side}.c", tmp_path / f"{side}.o"
+        texts = [f'__attribute__((section("{it}"))) int {it}(void *context) {{ return {value}; }} // {side}' for it in ("one", "two")]
+        path.write_text("\n".join(texts))
+        assert compile_source(path, "bpfel", ("-g",), out)
+        file = ElfFile.read(out.read_bytes())
+        section_named(b"two", name)(file)
+        objects.append(review.accepted(bytes(file.write())))
+        lines.append([f"{path}:{number}: {it}" for number, it in enumerate(texts, 1)])
+    found = review.changes(*objects)
+    first, second = zip(*lines)
+    assert sources(found["changed function one one"]) == [*first]
+    assert sources(found[f"changed function {title}"]) == ([*second] if name == b"two" else ["", ""])
+
+
+def sources(lines: list[str]) -> list[str]:
+    """The source lines of what was removed and added."""
+    return [it.partition("  ; ")[2] for it in lines if it[0] in "-+" and "digest=" not in it]
 
 
 @pytest.mark.needs("clang")
@@ -248,6 +272,48 @@ def test_output_is_printable(run: Run) -> None:
     assert done.returncode == 0 and b'"\\u001b[31m\\nred\\udcff"' in done.stdout and b"\x1b" not in done.stdout
 
 
+MARK = "\x1b\n\u202e"  # begins a line, and turns the text that follows round
+ESCAPED = MARK.encode("unicode_escape").decode()
+
+
+def marked(data: bytes) -> bytes:
+    """An object file in which source lines, and names of symbols, of types and of a section begin with the mark."""
+    file, mark = ElfFile.read(data), MARK.encode()
+    symbols, btf = file.symbols(), btf_of(file)
+    assert btf
+    for it in symbols:
+        it.name = file.add_string(file.symbol_names, mark + file.string(file.symbol_names, it.name)) if it.name else 0
+    file.set_symbols(symbols)
+    kept = {file.name(it) for it in range(len(file.sections))}
+    strings = bytes(btf.strings).split(b"\0")
+    btf.strings = bytearray(b"\0".join(it if it in kept or len(it) < len(mark) else mark + it[len(mark) :] for it in strings))
+    set_btf(file, btf)
+    section_named(b"license", mark + b"license")(file)
+    return bytes(file.write())
+
+
+OLD, NEW, REFUSED = (f"{MARK}{word}" for word in ("old", "new", "refused"))
+# What is printed of these names, among other lines.
+PRINTED = {
+    "show": (("show", OLD, NEW), f"==> {ESCAPED}old <=="),
+    "list": (("list", OLD), f"  {ESCAPED}old"),
+    "source lines": (("diff", OLD, NEW), f"  ; {ESCAPED}ws.c:48: {ESCAPED}l++;"),
+    "a refused file": (("list", REFUSED), f"bpfcanon-review: {ESCAPED}refused: byte 0: Magic: "),
+    "an argument": (("list", f"--{MARK}"), f"--{ESCAPED}"),
+}
+
+
+@pytest.mark.parametrize("case", PRINTED)
+def test_everything_is_escaped(case: str, run: Run, tmp_path: Path) -> None:
+    words, text = PRINTED[case]
+    for name, content in (OLD, marked(FLOWS.read_bytes())), (NEW, marked(CHANGED.read_bytes())), (REFUSED, b"#" * 64):
+        (tmp_path / name).write_bytes(content)
+    done = run(*words, cwd=tmp_path)
+    printed = (done.stdout + done.stderr).decode()
+    assert text in printed
+    assert [it for it in printed.split("\n") if not it.replace("\t", "").isprintable() or it.startswith("\\")] == []
+
+
 def test_output_that_fails(run: Run) -> None:
     with open("/dev/full", "wb") as full:
         done = run("show", FLOWS, capture_output=False, stdout=full, stderr=subprocess.PIPE)
@@ -260,9 +326,41 @@ def test_no_library(run: Run) -> None:
     assert done.stderr.startswith(b"bpfcanon-review: ") and b"BPFCANON_LIBRARY can name its file" in done.stderr
 
 
+def test_longest_file(run: Run, tmp_path: Path) -> None:
+    """One with a byte more is refused, although what precedes it is accepted, and so is one without end."""
+    most = 64 << 20
+    for name, size in ("longest", most), ("longer", most + 1):
+        shutil.copy(FLOWS, tmp_path / name)
+        os.truncate(tmp_path / name, size)
+    done = run("list", "longest", "longer", "/dev/zero", cwd=tmp_path)
+    assert done.returncode == 2 and done.stdout.count(b"longest") == 3
+    assert [it.rpartition(b": ")[0] for it in done.stderr.splitlines()] == [
+        b"bpfcanon-review: %s: byte %d: FileTooLarge" % (name, most) for name in (b"longer", b"/dev/zero")
+    ]
+
+
+def endless(*_: object) -> Iterator[None]:
+    """A comparison that ends only if it has no limit, after a while."""
+    end = time.process_time() + 5
+    while time.process_time() < end:
+        pass
+    yield from ()
+
+
+def test_comparison_over_its_limit(review: Review, monkeypatch: pytest.MonkeyPatch, capsys: pytest.CaptureFixture[str]) -> None:
+    commands = review.module("commands")
+    monkeypatch.setattr(review.module("limits"), "SECONDS", 0.5)
+    monkeypatch.setattr(commands, "compare", endless)
+    assert commands.diff(argparse.Namespace(old=str(FLOWS), new=str(CHANGED))) == 2
+    said = capsys.readouterr()
+    assert said.out == "" and said.err.startswith(f"bpfcanon-review: {FLOWS}, {CHANGED}: it takes more than ")
+
+
 def test_limits(review: Review, monkeypatch: pytest.MonkeyPatch) -> None:
     """An answer that takes too long, or too much memory, ends, and what follows has the memory that it had."""
     limits, before = review.module("limits"), resource.getrlimit(resource.RLIMIT_AS)
+    stated = re.search(r"more than (\d+) seconds of processor time or (\d+) GiB", (TOP / "man" / "bpfcanon-review.1").read_text())
+    assert stated and [limits.SECONDS, limits.MEMORY >> 30] == [int(it) for it in stated.groups()]
     monkeypatch.setattr(limits, "SECONDS", 0.05)
     with pytest.raises(TimeoutError), limits.limited():
         while True:

@@ -81,6 +81,11 @@ class Accepted:
         found = enumerate(self._elf.iter_sections())
         return {index: self._section(index, it, labels) for index, it in found if index and it.name not in WRITTEN}
 
+    @cached_property
+    def code(self) -> dict[str, Section]:
+        """The first section of code with each name: the one that records of .BTF.ext with this name are about."""
+        return {it.name: it for it in reversed(self.sections.values()) if it.is_code}
+
     def _section(self, index: int, it: Any, labels: Labels) -> Section:
         type, name = it["sh_type"].replace("SHT_", ""), self._string(it["sh_name"])
         head = f"{type} flags={it['sh_flags']:#x} address={it['sh_addr']:#x} size={it['sh_size']}"

@@ -8,7 +8,7 @@ import io
 import os
 import signal
 import sys
-from typing import Any
+from typing import Any, NoReturn
 
 import bpfcanon
 
@@ -34,10 +34,18 @@ class Version(argparse.Action):
         parser.exit()
 
 
+class Parser(argparse.ArgumentParser):
+    """Refuses arguments, among which may be names of files."""
+
+    def error(self, message: str) -> NoReturn:
+        """Write the usage and what is wrong, and end the process."""
+        super().error(printable(message))
+
+
 def parser() -> argparse.ArgumentParser:
     """Return the parser of command lines."""
     how: dict[str, Any] = {"epilog": NOTE, "formatter_class": argparse.RawDescriptionHelpFormatter, "allow_abbrev": False}
-    top = argparse.ArgumentParser(NAME, description="Listings and comparisons of BPF object files.", **how)
+    top = Parser(NAME, description="Listings and comparisons of BPF object files.", **how)
     top.add_argument("--version", action=Version, nargs=0, help="show the versions and exit")
     commands = top.add_subparsers(dest="command", required=True, metavar="COMMAND")
 
@@ -59,7 +67,7 @@ def complain(error: BaseException, name: str = "standard output") -> None:
     """Write on standard error what went wrong with a file."""
     text = "out of memory" if isinstance(error, MemoryError) else getattr(error, "strerror", None) or str(error)
     if sys.stderr is not None:
-        print(f"{NAME}: {printable(name)}: {text}", file=sys.stderr)
+        print(f"{NAME}: {printable(name)}: {printable(text)}", file=sys.stderr)
 
 
 def main() -> int:

@@ -20,7 +20,8 @@ MAX_HEX, ROW = 1 << 16, 16  # bytes of data that are printed, and in a line
 
 @dataclass(frozen=True)
 class Line:
-    """A line of text; of an instruction also the name of its section and its offset there, by which its source is found.
+    """A line of text; of an instruction also the name of its section and its offset there, by which its source is found. Of several sections
+    with one name, only the first has source lines.
 
     Lines with one text are equal: a function that only moved isn't another one.
     """
@@ -60,14 +61,15 @@ def parts(object: Accepted) -> Iterator[Part]:
     listing = Listing(object, notation)
     for section in object.sections.values():
         yield part("section", section.label, [f"\t{section.head}"])
-        yield from code_parts(listing, section) if section.is_code else data_parts(listing, section)
+        has_lines = object.code.get(section.name) is section
+        yield from code_parts(listing, section, has_lines) if section.is_code else data_parts(listing, section)
     yield from table_parts(listing)
     yield part("symbols", "in sequence", map(symbol_line, object.symbols[1:]))
     if notation and object.types:
         yield from (part("type", notation.label(id), (f"\t{it}" for it in notation.lines(id))) for id in range(1, len(object.types)))
 
 
-def code_parts(listing: Listing, section: Section) -> Iterator[Part]:
+def code_parts(listing: Listing, section: Section, has_lines: bool) -> Iterator[Part]:
     """Yield the functions of a section. Targets of jumps inside a function have labels."""
     code = listing.code[section.index]
     targets, place = {it.target for it in code}, 0
@@ -80,7 +82,7 @@ def code_parts(listing: Listing, section: Section) -> Iterator[Part]:
         labels = {it.offset: f"L{number}" for number, it in enumerate((it for it in inside if it.offset in targets), 1)}
         for it in inside:
             lines += [Line(f"{labels[it.offset]}:")] if it.offset in labels else []
-            lines.append(Line(f"\t{listing.text(section.index, it, labels)}", section.name, it.offset))
+            lines.append(Line(f"\t{listing.text(section.index, it, labels)}", section.name if has_lines else "", it.offset))
         yield Part("function", f"{section.label} {name}", tuple(lines))
         place = last
 

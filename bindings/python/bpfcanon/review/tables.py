@@ -42,13 +42,12 @@ def tables(object: Accepted, notation: Optional[Notation]) -> Iterator[Table]:
 
 def extension_tables(object: Accepted, notation: Notation) -> Iterator[Table]:
     """Yield the groups of functions and of CO-RE relocations."""
-    code = {it.name: it for it in reversed(object.sections.values()) if it.is_code}
     for group in object.extension.functions:
         functions = (Row(offset, f"type {notation.label(type)}") for offset, type in group.records)
-        yield Table("types", printed(group.section), code.get(group.section), tuple(functions))
+        yield Table("types", printed(group.section), object.code.get(group.section), tuple(functions))
     for group in object.extension.core:
         rows = (
             Row(offset, f"core {CORE_KINDS.get(kind, kind)} {notation.label(type)} {printed(object.extension.string(access))}")
             for offset, type, access, kind in group.records
         )
-        yield Table("core", printed(group.section), code.get(group.section), tuple(rows))
+        yield Table("core", printed(group.section), object.code.get(group.section), tuple(rows))
