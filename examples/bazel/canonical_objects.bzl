@@ -12,6 +12,8 @@ done
 """
 
 def _canonical_objects_impl(ctx):
+    if len({it.basename: None for it in ctx.files.srcs}) < len(ctx.files.srcs):
+        fail("two objects have the same name, and so would their canonical files")
     outputs = [ctx.actions.declare_file(ctx.label.name + "/" + it.basename) for it in ctx.files.srcs]
     words = ctx.actions.args()
     words.add(ctx.executable.program)

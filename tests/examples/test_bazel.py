@@ -1,4 +1,6 @@
-"""Bazel finds what depends on canonical files in its cache again after a comment, and not after a change of the program."""
+"""Bazel finds what depends on canonical files in its cache again after a comment, and not after a change of the program, and each canonical
+file is that of the object with its name.
+"""
 
 from __future__ import annotations
 
@@ -62,3 +64,8 @@ def test_cache(workspace: Workspace) -> None:
     assert workspace.found() == built | {"image.bin": True}
     workspace.edit("deny.c", "return 1;", "return 0;")
     assert workspace.found() == built | {"image.bin": False}
+    for name in "allow.o", "deny.o":
+        assert workspace.follow(f"bpfcanon-object canon bazel-bin/{name} | cmp - bazel-bin/canonical/{name}", HERE).returncode == 0
+    workspace.edit("BUILD", 'srcs = ["allow.o", "deny.o"]', 'srcs = ["allow.o", "more/allow.o"]')
+    refused = workspace.follow("mkdir more && cp bazel-bin/deny.o more/allow.o && bazel build :canonical", HERE)
+    assert refused.returncode != 0 and "two objects have the same name" in refused.stderr

@@ -2,8 +2,6 @@
 
 from __future__ import annotations
 
-import json
-import re
 from pathlib import Path
 
 import pytest
@@ -50,19 +48,24 @@ def test_members_whose_types_have_no_name(object_program: Path, prefix: Path, tm
     assert place.follow(f"{commands.partition(' < ')[0]} < types.btf").stdout == "s.a 0 -\n"
 
 
-@pytest.mark.needs(*COMPILED, "python3-yaml")
-def test_workflow(object_program: Path, tmp_path: Path) -> None:
-    """The commands run as on GitHub, with a stand-in for the tests that the reader has."""
-    place = Place(tmp_path, object_program)
-    read = ["/usr/bin/python3", "-c", "import json, sys, yaml; print(json.dumps(yaml.safe_load(open(sys.argv[1]))))"]
-    workflow = json.loads(place.run(*read, "examples/github_actions/objects.yml").stdout)
-    steps = [step for job in workflow["jobs"].values() for step in job["steps"]]
-    place.follow("mkdir third_party && ln -s ../bin/bpfcanon-object third_party && cp recipes/count.c .")
-    (tmp_path / "test_on_kernels").write_text('#!/bin/sh\necho "$*" >> calls\n')
-    (tmp_path / "test_on_kernels").chmod(0o755)
-    for script in [step["run"] for step in steps if "run" in step]:
-        done = place.run("bash", "--noprofile", "--norc", "-eo", "pipefail", "-c", script)
-        assert done.returncode == 0, f"{script}: {done.stderr}"
-    assert (tmp_path / "calls").read_text() == "count.canonical.o\n"
-    (cache,) = [step["with"] for step in steps if step.get("uses", "").startswith("actions/cache@")]
-    assert [name for name in [cache["path"], *re.findall(r"'(.*?)'", cache["key"])] if not (tmp_path / name).is_file()] == []
+@pytest.mark.needs(*COMPILED, "cmake", "ninja")
+def test_cmake_follows_headers(object_program: Path, tmp_path: Path) -> None:
+    """A header of the source changes, and each output is made again, of the one before it."""
+    commands = """
+        cp recipes/count.c examples/cmake && cd examples/cmake && touch more.h && echo '#include "more.h"' >> count.c
+        cmake -G Ninja -S . -B build > message && cmake --build build -- --quiet
+        echo 'int more = 1;' > more.h && cmake --build build -- --quiet
+        bpfcanon-object canon build/count.o | cmp - build/count.canonical.o && cmp build/count.canonical.o build/image
+    """
+    done = Place(tmp_path, object_program).follow(commands)
+    assert (done.returncode, done.stdout) == (0, "building the image\n" * 2), done.stderr
+
+
+@pytest.mark.needs(*OVER_LIBRARY["dask"])
+def test_dask_status(object_program: Path, prefix: Path, tmp_path: Path) -> None:
+    """Folders below are included, and what can't be read doesn't end the work on other files."""
+    place = Place(tmp_path, object_program, prefix)
+    compiled = "mkdir -p objects/below && clang -target bpfel -O2 -g -DMAP=packets -c recipes/count.c -o objects/packets.o"
+    count = "/usr/bin/python3 examples/dask/keys.py objects | sed 's/[0-9a-f]\\{64\\}/../'"
+    done = place.follow(f"{compiled} && cp objects/packets.o objects/below && {count} && ln -s none objects/below/none.o && {count}")
+    assert (done.returncode, done.stdout) == (1, "2 ..\n1 not read: No such file or directory\n2 ..\n"), done.stderr

@@ -2,6 +2,7 @@
 
 from __future__ import annotations
 
+import struct
 from dataclasses import replace
 from pathlib import Path
 from typing import Callable
@@ -10,6 +11,7 @@ import pytest
 
 from tests import TOP
 from tests.examples.conftest import Done, Loader
+from tests.judges.test_pairs import line_inside
 from tests.objects.elf_file import ElfFile, Symbol
 from tests.objects.known import code_twice, number_of
 
@@ -98,27 +100,62 @@ def test_cut_object(loader: Loader) -> None:
     assert_refused(loader.load("cut.o"))
 
 
-PUBLIC = "openssl pkey -inform DER -pubout -outform DER -out WRONG"
-# What stands for a file of the page, and how it is made.
+def unreadable(data: bytes) -> bytes:
+    """A file of the same object. cilium/ebpf refuses a source line that begins inside a string, and the crate `object` misaligned headers."""
+    file = ElfFile.read(data)
+    line_inside(file)
+    content = bytes(file.write())
+    (table,) = struct.unpack_from("<Q", content, 40)
+    return content[:40] + struct.pack("<Q", table + 1) + content[48:table] + b"\0" + content[table:]
+
+
+def test_file_that_no_loader_reads(loader: Loader) -> None:
+    """What is loaded is the canonical file, and not the one that was given. libbpf would take both: the next test looks at its bytes."""
+    (loader.folder / "unreadable.o").write_bytes(unreadable((loader.folder / "count.o").read_bytes()))
+    assert is_loaded(loader.load("unreadable.o"))
+
+
+@pytest.mark.parametrize("loader", [pytest.param("loader_c", marks=pytest.mark.xdist_group("loader_c"))], indirect=True)
+def test_bytes_for_libbpf(loader: Loader) -> None:
+    source = Path(__file__).parent / "opened.c"
+    assert loader.run("cc", "-shared", "-fPIC", source, "-o", "opened.so").returncode == 0
+    done = loader.follow(f"LD_PRELOAD=./opened.so {loader.program} public.der count.sig count.o || true; cmp opened canonical.o")
+    assert done.returncode == 0, done.stderr
+
+
+def test_object_is_read_once(loader: Loader) -> None:
+    """A pipe gives its bytes to the first who opens it, as a path may lead to another file by then."""
+    done = loader.follow(f"cat count.o | {loader.program} public.der count.sig /dev/stdin")
+    assert is_loaded(done), done.stderr
+
+
+PUBLIC = "openssl pkey -inform DER -pubout -outform DER"
+SIGN = "openssl pkeyutl -sign -rawin -in canonical.o"
+# What stands for the key or the signature of the page, and how it is made.
 WRONG = {
-    "another key": ("public.der", f"openssl genpkey -algorithm ed25519 -outform DER | {PUBLIC}"),
-    "a key of RSA": ("public.der", f"openssl genpkey -algorithm rsa -outform DER | {PUBLIC}"),
-    "a key in PEM": ("public.der", "openssl pkey -in private.pem -pubout -out WRONG"),
-    "a cut key": ("public.der", "head -c 43 public.der > WRONG"),
-    "a longer key": ("public.der", "cat public.der public.der > WRONG"),
-    "no key": ("public.der", "rm -f WRONG"),
-    "a signature of the object itself": ("count.sig", "openssl pkeyutl -sign -rawin -inkey private.pem -in count.o -out WRONG"),
-    "a cut signature": ("count.sig", "head -c 63 count.sig > WRONG"),
-    "a longer signature": ("count.sig", "cat count.sig count.sig > WRONG"),
-    "an empty signature": ("count.sig", ": > WRONG"),
+    "another key": f"openssl genpkey -algorithm ed25519 -outform DER | {PUBLIC} -out wrong.der",
+    "a signature by another key": f"openssl genpkey -algorithm ed25519 -out other.pem && {SIGN} -inkey other.pem -out wrong.sig",
+    "a key of ECDSA and its signature": "openssl genpkey -algorithm EC -pkeyopt ec_paramgen_curve:P-256 -out ec.pem && "
+    f"openssl pkey -in ec.pem -pubout -outform DER -out wrong.der && {SIGN} -inkey ec.pem -out wrong.sig",
+    "a key of X25519 with the same bytes": r"LC_ALL=C sed 's/\x2b\x65\x70/\x2b\x65\x6e/' public.der > wrong.der",
+    "a key in PEM": "openssl pkey -in private.pem -pubout -out wrong.der",
+    "a cut key": "head -c 43 public.der > wrong.der",
+    "a longer key": "cat public.der public.der > wrong.der",
+    "no key": "ln -s none wrong.der",
+    "a signature of the object itself": "openssl pkeyutl -sign -rawin -inkey private.pem -in count.o -out wrong.sig",
+    "a cut signature": "head -c 63 count.sig > wrong.sig",
+    "a longer signature": "cat count.sig count.sig > wrong.sig",
+    "an empty signature": ": > wrong.sig",
 }
 
 
 @pytest.mark.parametrize("wrong", WRONG)
 def test_wrong_key_or_signature(loader: Loader, wrong: str) -> None:
-    right, made = WRONG[wrong]
-    assert loader.follow(made.replace("WRONG", "wrong")).returncode == 0
-    key, signature = ("wrong" if it == right else it for it in ("public.der", "count.sig"))
+    made = loader.follow(f"rm -f wrong.*; {WRONG[wrong]}; ls wrong.*")
+    assert made.returncode == 0, made.stderr
+    names = made.stdout.split()
+    key, signature = (next((it for it in names if it.endswith(end)), right) for end, right in ((".der", "public.der"), (".sig", "count.sig")))
+    assert names and {key, signature} >= {*names}
     assert_refused(loader.load("count.o", key, signature))
 
 

@@ -172,7 +172,7 @@ PASS = (object_vectors.FOLDER / "pass.little.plain.o").read_bytes()
 
 def test_instructions_before_the_first_function(review: Review) -> None:
     object = review.accepted(edit(PASS, symbol(b"pass", value=8, size=8)))
-    assert review.lines(object, "function xdp <unnamed>") == ["mov r0, 2"]
+    assert review.lines(object, "function xdp <unnamed>") == ["mov32 r0, 2"]
     assert review.lines(object, "function xdp pass") == ["exit"]
 
 
@@ -203,17 +203,19 @@ def test_statuses(run: Run, tmp_path: Path) -> None:
     assert done[2].stderr == b"bpfcanon-review: none: No such file or directory\n"
 
 
-SIDES = {"old": 1, "new": 2}
+# What a function returns in each of two files, and the name of that in each section.
+RETURNED, FUNCTIONS = {"old": 1, "new": 2}, {"one": "first", "two": "second"}
 
 
 @pytest.mark.needs("clang")
-@pytest.mark.parametrize("name, title", [(b"two", "two two"), (b"one", "one#2 two")])
+@pytest.mark.parametrize("name, title", [(b"two", "two second"), (b"one", "one#2 second")])
 def test_source_lines_of_each_section(name: bytes, title: str, review: Review, tmp_path: Path) -> None:
     """Each file and section has its own lines. Of two sections with one name, .BTF.ext is about the first."""
     objects, lines = [], []
-    for side, value in SIDES.items():
+    for side, value in RETURNED.items():
         path, out = tmp_path / f"{side}.c", tmp_path / f"{side}.o"
-        texts = [f'__attribute__((section("{it}"))) int {it}(void *context) {{ return {value}; }} // {side}' for it in ("one", "two")]
+        attribute = '__attribute__((section("{}")))'.format
+        texts = [f"{attribute(place)} int {it}(void *context) {{ return {value}; }} // {side}" for place, it in FUNCTIONS.items()]
         path.write_text("\n".join(texts))
         assert compile_source(path, "bpfel", ("-g",), out)
         file = ElfFile.read(out.read_bytes())
@@ -222,13 +224,13 @@ def test_source_lines_of_each_section(name: bytes, title: str, review: Review, t
         lines.append([f"{path}:{number}: {it}" for number, it in enumerate(texts, 1)])
     found = review.changes(*objects)
     first, second = zip(*lines)
-    assert sources(found["changed function one one"]) == [*first]
+    assert sources(found["changed function one first"]) == [*first]
     assert sources(found[f"changed function {title}"]) == ([*second] if name == b"two" else ["", ""])
 
 
 def sources(lines: list[str]) -> list[str]:
-    """The source lines of what was removed and added."""
-    return [it.partition("  ; ")[2] for it in lines if it[0] in "-+" and "digest=" not in it]
+    """The source lines of what was removed and added, which follow other notes; "" for none."""
+    return [it.rpartition("  ; ")[2] if ".c:" in it else "" for it in lines if it[0] in "-+" and "digest=" not in it]
 
 
 @pytest.mark.needs("clang")
@@ -299,7 +301,7 @@ PRINTED = {
     "list": (("list", OLD), f"  {ESCAPED}old"),
     "source lines": (("diff", OLD, NEW), f"  ; {ESCAPED}ws.c:48: {ESCAPED}l++;"),
     "a refused file": (("list", REFUSED), f"bpfcanon-review: {ESCAPED}refused: byte 0: Magic: "),
-    "an argument": (("list", f"--{MARK}"), f"--{ESCAPED}"),
+    "an argument": (("list", REFUSED, f"--{MARK}"), f"--{ESCAPED}"),
 }
 
 
