@@ -1,6 +1,8 @@
 /* Types that are encoded from records: by hand, as they were decoded, and records that no BTF has. usage: encode TESTDATA */
 #include "checks.h"
 
+#include <time.h>
+
 /* INT "int" of 32 bits, signed; STRUCT "s" of 4 bytes with the bit-field "int" of 3 bits at 5; canonical, with its names at 65 and 69. */
 static const uint8_t file[] =
 	"\x9f\xeb\1\0\x18\0\0\0" "\0\0\0\0\x28\0\0\0\x28\0\0\0\7\0\0\0" "\1\0\0\0\0\0\0\1\4\0\0\0\x20\0\0\1"
@@ -112,6 +114,32 @@ static void what_no_btf_has_is_refused(void)
 	REFUSED(1, BPFCANON_BTF_CAUSE_MEMBER_PLACE, items[0].bit_offset, 30);
 }
 
+/* Types whose names are ends of one long name, as a file may have them: the time doesn't grow with the sum of the lengths of names. */
+static void ends_of_one_name_take_little_time(void)
+{
+	enum { TYPES = 4000, LETTERS = (1 << 24) - 2, TIMES_THE_TIME = 20 };
+	char *names = (char *)repeat("n", 1, LETTERS + 1);
+	bpfcanon_btf_type *types = (void *)allocate(TYPES * sizeof *types);
+	uint8_t *out, *canonical;
+	clock_t start, encoding;
+	bpfcanon_answer answer;
+
+	names[LETTERS] = 0;
+	for (uint32_t k = 0; k < TYPES; k++)
+		types[k] = (bpfcanon_btf_type){ .kind = BPFCANON_BTF_KIND_STRUCT, .name = k, .name_len = LETTERS - k };
+	start = clock();
+	answer = bpfcanon_btf_encode_new(BPFCANON_ORDER_LITTLE, types, TYPES, NULL, 0, names, LETTERS + 1, &out);
+	encoding = clock() - start;
+	start = clock();
+	CHECK(is(answer, written(24 + 12 * TYPES + 1 + LETTERS + 1)));
+	CHECK(is(bpfcanon_btf_canon_new(BPFCANON_ORDER_LITTLE, out, answer.written, &canonical), answer));
+	CHECK(encoding < TIMES_THE_TIME * (clock() - start));
+	bpfcanon_free(out);
+	bpfcanon_free(canonical);
+	free(types);
+	free(names);
+}
+
 int main(int argc, char **argv)
 {
 	if (argc != 2)
@@ -119,5 +147,6 @@ int main(int argc, char **argv)
 	types_are_encoded();
 	decoded_types_are_encoded(argv[1]);
 	what_no_btf_has_is_refused();
+	ends_of_one_name_take_little_time();
 	return end("encode");
 }

@@ -6,21 +6,22 @@ use Rattle.std.proofs.lemmas.List.Sums.{sum_by-cons}
 use Rattle.bpf_words.specs.declared.Order.{Order, TheVariants.Little}
 use Rattle.btf_types.proofs.StringLemmas.EncodedNames.{encoded_table_fits}
 use Rattle.std.proofs.lemmas.List.{length-take, length-drop}
-use Rattle.btf_raw.specs.{Header.header, Frames.bytes_of, Frames.section_of}
+use Rattle.btf_raw.specs.Frames.{bytes_of, section_of}
 use Rattle.btf_raw.specs.Kinds.{tail_words}
 use Rattle.btf_types.specs.Values.{TypeRecord}
 use Rattle.btf_types.specs.{Denotes.Denotes, Encoding.Encodes, Encoding.kind_number, checks.Numbers.TypeFacts}
 use Rattle.btf_types.specs.Valid.{IsValid, IsValidRecord, facts, record_size}
 use Rattle.btf_types.proofs.{TableLemmas.TableSteps.concat-map, TableLemmas.TableSteps.encoded_bytes}
 use Rattle.bpf_canon.specs.btf.CanonicalBtf.{canonical}
-use Rattle.bpf_canon.proofs.BtfLemmas.CanonicalFiles.{types_size, length-canonical, canonical_size}
+use Rattle.bpf_canon.proofs.BtfLemmas.CanonicalFiles.{length-canonical, canonical_size}
 use Rattle.bpfcanon_c.specs.declared.btf_rows.{TypeRow.TypeRow, ItemRow.ItemRow}
 use Rattle.bpfcanon_c.specs.declared.btf_plain.Plan.{Plan}
 use Rattle.bpfcanon_c.specs.BtfSaying.{AreNear, TellsType, TellTypes}
 use Rattle.bpfcanon_c.specs.BtfEncoding.{IsEncodedBtf}
 use Rattle.bpfcanon_c.specs.BtfPlain as plain
 use Rattle.bpfcanon_c.specs.BtfPlain.{IsPlan, HoldsNames, names_section, row_size, row_words}
-use Rattle.bpfcanon_c.proofs.BtfNames.{section_ends, section_long}
+use Rattle.bpfcanon_c.proofs.BtfLengths.{plain_cut}
+use Rattle.bpfcanon_c.proofs.BtfNames.{section_ends}
 use Rattle.bpfcanon_c.proofs.BtfRecordWords.{kind_is}
 use Rattle.bpfcanon_c.proofs.BtfPlans.{names_near}
 use Rattle.bpfcanon_c.proofs.BtfTold.{type_encodes}
@@ -64,22 +65,12 @@ told_denotes types items strings p v plan told =
     let fs = plain.frames p.names.start types items in
     let records = section_of Little fs in
     let encodes = types_encode strings items p (facts v) types v plan.part told.each plan.holds told.valid.each in
-    let size : length records ≡ sum_by record_size v = types_size Little section (facts v) v fs told.valid.each encodes in
-    let same : p.types_len ≡ length records = plan.size ∙ sizes_told strings items types v told.each ∙ sym size in
     record {
       order = Little;
       types = records;
       strings = section;
       encodings = map (bytes_of Little) fs;
-      cut = record {
-        header_len = 24;
-        at_least = lit≤ tt;
-        at_most = lit≤ tt;
-        types_fit = omega (arith, size, told.valid.size);
-        some_strings = omega arith;
-        strings_fit = section_long strings p.names plan.part;
-        parts = inl (ap (λ (n : ℕ). header Little 24 0 n n (length section) ++ records ++ section) same);
-      };
+      cut = plain_cut types items strings p plan;
       nul_ends = section_ends strings p.names plan.part;
       encoded = encoded_bytes Little section v fs encodes;
       whole = sym (concat-map Little fs);

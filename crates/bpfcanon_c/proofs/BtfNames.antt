@@ -1,8 +1,8 @@
 -- The names of records in the string section of their BTF.
-use Rattle.std.proofs.Common.{◌≡◌, ◌<◌, ◌≤◌, ◌+◌, ◌-◌, ◌%◌, ◌^◌, ◌++◌, ◌∙◌, ℕ, suc, List, [], ◌∷◌, length, take, drop, get_or, refl, sym, ap, subst, inl, inr, arith, append_assoc}
+use Rattle.std.proofs.Common.{◌≡◌, ◌<◌, ◌≤◌, ◌+◌, ◌-◌, ◌%◌, ◌^◌, ◌++◌, ◌∙◌, ℕ, suc, List, [], ◌∷◌, length, take, drop, get_or, refl, sym, ap, subst, inl, inr, arith, append_assoc, length-append}
 use Rattle.std.specs.Prelude.{slice_index}
 use Rattle.std.proofs.lemmas.Bool.Decides.{nat_tests}
-use Rattle.std.proofs.lemmas.List.{take-append-drop, take-take, drop-take, drop-drop, length-take, length-take-le, length-drop, get_or-take, get_or-drop}
+use Rattle.std.proofs.lemmas.List.{take-append-drop, take_at, take-take, drop_at, drop-take, drop-drop, length-take, length-take-le, length-drop, get_or-take, get_or-drop}
 use Rattle.btf_raw.specs.{Header.HasNulEnds, Names.NameAt}
 use Rattle.btf_types.specs.Names.{IsName}
 use Rattle.bpfcanon_c.specs.declared.btf_plain.NamesPart.{NamesPart}
@@ -35,6 +35,13 @@ text_in front body name k inside e b is =
       utf8 = is.utf8;
     }
 
+-- the bytes of a part from an offset on are those of the strings
+part_behind : (strings : List ℕ) (start at k m : ℕ) → k ≤ m → start + k ≡ at → drop k (take m (drop start strings)) ≡ take (m - k) (drop at strings)
+part_behind strings start at k m inside e =
+    let parts : k + (m - k) ≡ m = omega arith in
+    ap (λ (j : ℕ). drop k (take j (drop start strings))) (sym parts) ∙ drop-take k (m - k) (drop start strings)
+    ∙ ap (λ (t : List ℕ). take (m - k) t) (drop-drop k start strings ∙ ap (λ (j : ℕ). drop j strings) e)
+
 -- a name that the part holds is in the section, at the offset that is written
 pub named_in : (strings : List ℕ) (p : NamesPart) (at : ℕ) (name : List ℕ) → IsNamesPart strings p → HoldsName p at (length name) → IsName name → IsNamed strings at name
     → NameAt (names_section strings p) (name_word p.start at (length name)) name
@@ -54,15 +61,36 @@ named_in strings p at (c ∷ cs) part holds is (inr e) =
     let body = take m (drop p.start strings) in
     let short = part.short in
     let at_offset : name_word p.start at n ≡ k + 1 = name_word_is p.start at n some ∙ omega arith in
-    let parts : k + (m - k) ≡ m = omega arith in
-    let begins : p.start + k ≡ at = omega arith in
-    let behind : drop k body ≡ take (m - k) (drop at strings) =
-    ap (λ (j : ℕ). drop k (take j (drop p.start strings))) (sym parts) ∙ drop-take k (m - k) (drop p.start strings)
-    ∙ ap (λ (t : List ℕ). take (m - k) t) (drop-drop k p.start strings ∙ ap (λ (j : ℕ). drop j strings) begins)
-    in
+    let behind = part_behind strings p.start at k m (omega arith) (omega arith) in
     let there : take (n + 1) (drop k body) ≡ name ++ 0 ∷ [] = ap (λ (t : List ℕ). take (n + 1) t) behind ∙ take-take (n + 1) (m - k) (drop at strings) (omega arith) ∙ e in
     let long : length body ≡ m = length-take-le m (drop p.start strings) (omega (arith, length-drop p.start strings, part.inside, part.order)) in
     subst (λ (j : ℕ). NameAt (0 ∷ body) j name) (sym at_offset) (text_in [] body name k (omega arith) there 0 is)
+
+-- a name that is read where it was written is at its offset in the strings
+pub name_back : (strings : List ℕ) (p : NamesPart) (at : ℕ) (name : List ℕ) → IsNamesPart strings p → HoldsName p at (length name)
+    → NameAt (names_section strings p) (name_word p.start at (length name)) name → IsNamed strings at name
+name_back strings p at [] part holds read = inl refl
+name_back strings p at (c ∷ cs) part holds read =
+    let name = c ∷ cs in
+    let n = length name in
+    let some : 0 < n = omega arith in
+    let low = holds.after some in
+    let high = holds.before some in
+    let short = part.short in
+    let k = at - p.start in
+    let m = p.end - p.start in
+    let body = take m (drop p.start strings) in
+    let text = read.text in
+    let at_offset : length text.before ≡ suc k = omega (arith, text.at_offset, name_word_is p.start at n some) in
+    let there : drop k body ≡ (name ++ 0 ∷ []) ++ text.after =
+    ap (λ (t : List ℕ). drop (suc k) t) (text.is_there ∙ append_assoc text.before name (0 ∷ text.after)) ∙ drop_at text.before (name ++ 0 ∷ text.after) (suc k) at_offset
+    ∙ sym (append_assoc name (0 ∷ []) text.after)
+    in
+    let behind = part_behind strings p.start at k m (omega arith) (omega arith) in
+    inr (
+    sym (take-take (n + 1) (m - k) (drop at strings) (omega arith)) ∙ ap (λ (t : List ℕ). take (n + 1) t) (sym behind ∙ there)
+    ∙ take_at (name ++ 0 ∷ []) text.after (n + 1) (length-append name (0 ∷ []))
+    )
 
 -- ---- the ends of the section
 

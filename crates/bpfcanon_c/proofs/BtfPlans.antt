@@ -12,9 +12,9 @@ use Rattle.bpf_canon.proofs.BtfLemmas.CanonicalEncodes.{All-front, All-back}
 use Rattle.bpfcanon_c.specs.declared.btf_rows.{TypeRow.TypeRow, ItemRow.ItemRow}
 use Rattle.bpfcanon_c.specs.declared.btf_plain.NamesPart.{NamesPart}
 use Rattle.bpfcanon_c.specs.BtfSaying.{IsNear, AreNear, own_rows}
-use Rattle.bpfcanon_c.specs.BtfPlain.{IsNamesPart, HoldsName, HoldsNames, row_size}
+use Rattle.bpfcanon_c.specs.BtfPlain.{HasName, IsWhole, IsNamesPart, HoldsName, HoldsNames, row_size}
 use Rattle.bpfcanon_c.specs.BtfPlanSteps.{IsLarger, AddsName, AddsNames, AddsType, AddsTypes, NameRefusal, TypeRefusal}
-use Rattle.bpfcanon_c.specs.BtfRefusal.{HasName, IsWhole, CanBeWritten, IsUnwritten, LastFault, IsIndexAt}
+use Rattle.bpfcanon_c.specs.BtfRefusal.{CanBeWritten, IsUnwritten, LastFault, IsIndexAt}
 
 record FirstAndNext {X : Type 0} (P : X → Type 0) (first : List X) (next : X) : Type 0 where
   first-all : All P first

@@ -18,11 +18,12 @@ use Rattle.bpf_canon.proofs.BtfLemmas.BtfFiles.{fails_no_file}
 use Rattle.bpfcanon_c.specs.declared.btf_rows.{TypeRow.TypeRow, ItemRow.ItemRow}
 use Rattle.bpfcanon_c.specs.declared.btf_plain.Plan.{Plan}
 use Rattle.bpfcanon_c.specs.BtfSaying.{AreNear, IsNamed, TellsItem, TellsType, TellTypes, own_rows}
-use Rattle.bpfcanon_c.specs.BtfPlain.{IsPlan, plain, row_size}
-use Rattle.bpfcanon_c.specs.BtfPlanSteps.{IsUntold}
-use Rattle.bpfcanon_c.specs.BtfRefusal.{HasName, HasNames, LastFault, IsUnwritten, IsIndexAt}
+use Rattle.bpfcanon_c.specs.BtfPlain.{HasName, HasNames, IsPlan, plain, row_size}
+use Rattle.bpfcanon_c.specs.BtfPlanSteps.{HasFields, IsUnlike}
+use Rattle.bpfcanon_c.specs.BtfRefusal.{LastFault, IsUnwritten, IsIndexAt}
 use Rattle.bpfcanon_c.specs.BtfEncoding.{IsNoBtf}
 use Rattle.bpfcanon_c.proofs.BtfSays.{named_stands}
+use Rattle.bpfcanon_c.proofs.BtfReadBack.{read_back, type_fields, types_fields}
 use Rattle.bpfcanon_c.proofs.BtfDenoted.{kind_told, sizes_told, told_denotes}
 
 is_some_kind : (h : TypeHead) → IsTrue (is_kind (kind_number h))
@@ -91,11 +92,24 @@ refused_faulty types items strings p b fault cause index plan is bytes fails sam
 }
 
 pub refused_other : (types : List TypeRow) (items : List ItemRow) (strings : List ℕ) (p : Plan) (b : List ℕ) (w : List TypeRecord) (index : ℕ) → IsPlan strings types items p → b ≡ plain p types items strings
-    → Denotes b w → IsUntold strings types items w index → IsNoBtf types items strings (record { cause = 0; pos = index; line = 0 })
-refused_other types items strings p b w index plan is denotes other = record {
+    → Denotes b w → IsUnlike types items w index → IsNoBtf types items strings (record { cause = 0; pos = index; line = 0 })
+refused_other types items strings p b w index plan is denotes unlike = record {
   none = λ v told.
       let same : v ≡ w = denotes_unique b v w (subst (λ (x : List ℕ). Denotes x v) (sym is) (told_denotes types items strings p v plan told)) denotes in
-      other.none (subst (λ (x : List TypeRecord). AllZip (TellsType strings items) types x) same told.each);
-  why = inr (refl, record { plan = p; planned = plan; v = w; denotes = subst (λ (x : List ℕ). Denotes x w) is denotes; fault = other.at });
+      unlike.none (subst (λ (x : List TypeRecord). AllZip (HasFields items) types x) same (types_fields strings items types v told.each));
+  why = inr (
+    refl,
+    record {
+      plan = p;
+      planned = plan;
+      v = w;
+      denotes = subst (λ (x : List ℕ). Denotes x w) is denotes;
+      fault = record {
+        before = read_back types items strings p b w plan is denotes index unlike.before;
+        here = λ row r e row-is r-is told. unlike.here row r e row-is r-is (type_fields strings items row r told);
+        inside = unlike.inside;
+      };
+    },
+  );
   line = refl;
 }

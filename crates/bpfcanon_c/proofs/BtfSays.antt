@@ -3,14 +3,11 @@ use Rattle.std.proofs.Common.{◌≡◌, ◌<◌, ◌≤◌, ◌+◌, ◌++◌, 
 use Rattle.std.specs.Prelude.{slice_get, slice_index}
 use Rattle.std.specs.List.{AllZip}
 use Rattle.std.proofs.Math.Seq.{get_or-append_seam}
-use Rattle.std.proofs.lemmas.List.{take_more, take_at, take_all, take-take, length-take, length-drop, get_or-take, get_or-drop}
+use Rattle.std.proofs.lemmas.List.{take_more, take_all, length-take, length-drop, get_or-take, get_or-drop}
 use Rattle.std.proofs.lemmas.Option.{get_or_from_slice_get}
 use Rattle.bpf_text.proofs.InsnLemmas.ZipLemmas.{zip_push}
-use Rattle.btf_types.specs.Values.{TypeRecord}
 use Rattle.btf_types.proofs.Lists.{zip_at}
-use Rattle.bpfcanon_c.specs.declared.btf_rows.{TypeRow.TypeRow, ItemRow.ItemRow}
-use Rattle.bpfcanon_c.specs.BtfSaying.{IsNamed, TellsItem, TellsType, own_rows}
-use Rattle.bpfcanon_c.specs.BtfPlanSteps.{TellsHead}
+use Rattle.bpfcanon_c.specs.BtfSaying.{IsNamed}
 use Rattle.bpfcanon_c.proofs.BtfRows.{more_at}
 
 -- ---- names
@@ -19,14 +16,6 @@ use Rattle.bpfcanon_c.proofs.BtfRows.{more_at}
 pub record Stands (strings : List ℕ) (at : ℕ) (name : List ℕ) : Type 0 where
   pub inside : at + length name < length strings
   pub nul : slice_index strings (at + length name) ≡ 0
-  pub bytes : take (length name) (drop at strings) ≡ name
-
-pub stands_named : (strings : List ℕ) (at : ℕ) (name : List ℕ) → Stands strings at name → IsNamed strings at name
-stands_named strings at name s =
-    let rest = drop at strings in
-    let more : take (length name + 1) rest ≡ take (length name) rest ++ get_or rest (length name) 0 ∷ [] = take_more rest (length name) 0 (omega (arith, length-drop at strings, s.inside)) in
-    let last : get_or rest (length name) 0 ≡ 0 = get_or-drop at strings (length name) 0 ∙ s.nul in
-    inr (more ∙ ap (λ (t : List ℕ). t ++ get_or rest (length name) 0 ∷ []) s.bytes ∙ ap (λ (b : ℕ). name ++ b ∷ []) last)
 
 pub named_stands : (strings : List ℕ) (at : ℕ) (name : List ℕ) → 0 < length name → IsNamed strings at name → Stands strings at name
 named_stands strings at name some (inl e) = absurd (omega (arith, ap length e))
@@ -37,7 +26,6 @@ named_stands strings at name some (inr e) =
       inside = omega (arith, ap length e, length-append name (0 ∷ []), length-take (n + 1) rest, length-drop at strings);
       nul =
           sym (get_or-drop at strings n 0) ∙ sym (get_or-take (n + 1) rest n 0 (omega arith)) ∙ ap (λ (t : List ℕ). get_or t n 0) e ∙ get_or-append_seam name 0 [] 0;
-      bytes = sym (take-take n (n + 1) rest (omega arith)) ∙ ap (λ (t : List ℕ). take n t) e ∙ take_at name (0 ∷ []) n refl;
     }
 
 -- ---- one item or one type more
@@ -53,12 +41,3 @@ zip_here R xs ys k d y low is zip = subst (λ (b : _). R (get_or xs k d) b) (get
 
 pub zip_whole : {A B : Type 0} (R : A → B → Type 0) (xs : List A) (ys : List B) (k : ℕ) → length xs ≤ k → length ys ≤ k → AllZip R (take k xs) (take k ys) → AllZip R xs ys
 zip_whole R xs ys k low high zip = subst (λ (t : List _). AllZip R t ys) (take_all k xs low) (subst (λ (t : List _). AllZip R (take k xs) t) (take_all k ys high) zip)
-
--- ---- a type
-
-pub tells_type : (strings : List ℕ) (items : List ItemRow) (row : TypeRow) (r : TypeRecord) → TellsHead strings row (length r.items) r.head → AllZip (TellsItem strings) (own_rows items row) r.items
-    → TellsType strings items row r
-tells_type strings items row r head each = record { form = head.form; named = head.named; each = each }
-
-pub tells_head : (strings : List ℕ) (items : List ItemRow) (row : TypeRow) (r : TypeRecord) → TellsType strings items row r → TellsHead strings row (length r.items) r.head
-tells_head strings items row r told = record { form = told.form; named = told.named }

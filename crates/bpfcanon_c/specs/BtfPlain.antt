@@ -1,9 +1,9 @@
 -- BTF that isn't canonical, from records. Any records have it: what a kind has is copied from a record, whether or not it says a type.
-use Rattle.std.specs.Prelude.{◌≡◌, ◌==◌, ◌<◌, ◌≤◌, ◌+◌, ◌-◌, ◌*◌, ◌/◌, ◌%◌, ◌^◌, ◌++◌, ℕ, ℤ, pos, negsuc, Bool, not, List, [], ◌∷◌, if◌then◌else◌, length, take, drop, slice_index, map}
+use Rattle.std.specs.Prelude.{◌≡◌, ◌==◌, ◌<◌, ◌≤◌, ◌+◌, ◌-◌, ◌*◌, ◌/◌, ◌%◌, ◌^◌, ◌++◌, ℕ, ℤ, pos, negsuc, Bool, IsTrue, not, List, [], ◌∷◌, if◌then◌else◌, length, take, drop, slice_index, map}
 use Rattle.std.specs.List.{All, flat_map, list_any, sum_by}
 use Rattle.bpf_words.specs.declared.Order.TheVariants.{Little}
 use Rattle.btf_raw.specs.KindNumbers.{INT, ARRAY, STRUCT, UNION, ENUM, FWD, FUNC, FUNC_PROTO, VAR, DATASEC, FLOAT, DECL_TAG, TYPE_TAG, ENUM64}
-use Rattle.btf_raw.specs.Kinds.{one_of, is_struct, tail_words}
+use Rattle.btf_raw.specs.Kinds.{one_of, is_kind, is_struct, item_words, tail_words}
 use Rattle.btf_raw.specs.{Heads.bit, Frames.section_of, Header.header, Header.STRINGS_LIMIT, Header.TYPES_LIMIT}
 use Rattle.btf_types.specs.{Encoding.info}
 use Rattle.bpfcanon_c.specs.declared.btf_rows.{TypeRow.TypeRow, ItemRow.ItemRow}
@@ -78,6 +78,23 @@ names_section strings p = 0 ∷ take (p.end - p.start) (drop p.start strings)
 abbrev pub row_size : TypeRow → ℕ
 row_size r = 4 * (3 + tail_words r.kind r.items)
 
+-- ---- what the record of a type needs
+
+-- a name that isn't empty is in the strings, with a NUL after it
+pub record HasName (strings : List ℕ) (at len : ℕ) : Type 0 where
+  pub inside : 0 < len → at + len < length strings
+  pub nul : 0 < len → slice_index strings (at + len) ≡ 0
+
+pub record HasNames (strings : List ℕ) (items : List ItemRow) (row : TypeRow) : Type 0 where
+  pub name : HasName strings row.name row.name_len
+  pub names : All (λ i. HasName strings i.name i.name_len) (own_rows items row)
+
+-- the type has a kind, all of its items, and its names
+pub record IsWhole (strings : List ℕ) (items : List ItemRow) (row : TypeRow) : Type 0 where
+  pub kind : IsTrue (is_kind row.kind)
+  pub all : 0 < item_words row.kind → length (own_rows items row) ≡ row.items
+  pub has : HasNames strings items row
+
 -- ---- the part of the strings that the names use
 
 -- it begins and ends within the strings, is as long as a string section may be after its first NUL, and ends with NUL if it isn't empty
@@ -99,8 +116,9 @@ pub record HoldsNames (p : NamesPart) (items : List ItemRow) (r : TypeRow) : Typ
 
 -- ---- the file
 
--- the plan has the names of all types, and the length of their records
+-- the types are whole, and the plan has the names of all of them and the length of their records
 pub record IsPlan (strings : List ℕ) (types : List TypeRow) (items : List ItemRow) (p : Plan) : Type 0 where
+  pub whole : All (IsWhole strings items) types
   pub part : IsNamesPart strings p.names
   pub holds : All (HoldsNames p.names items) types
   pub size : p.types_len ≡ sum_by row_size types

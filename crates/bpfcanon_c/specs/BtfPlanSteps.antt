@@ -1,16 +1,15 @@
 -- The plan of the BTF of records, made name by name and type by type.
-use Rattle.std.specs.Prelude.{◌≡◌, ◌≢◌, ◌<◌, ◌≤◌, ◌+◌, ℕ, List, IsFalse, length}
+use Rattle.std.specs.Prelude.{◌≡◌, ◌≢◌, ◌⊎◌, ◌<◌, ◌≤◌, ◌+◌, ℕ, Some, List, IsFalse, length, take, slice_get}
 use Rattle.std.specs.List.{All, AllZip, sum_by}
 use Rattle.btf_raw.specs.declared.cause.BtfCause.{BtfCause}
 use Rattle.btf_raw.specs.declared.cause.BtfCause.TheVariants.{StringLength, KindNumber, TailCut, NameRange}
 use Rattle.btf_raw.specs.{Header.STRINGS_LIMIT, Header.TYPES_LIMIT, Kinds.is_kind, Kinds.item_words}
-use Rattle.btf_types.specs.{Values.TypeHead, Values.TypeRecord, Names.head_name}
+use Rattle.btf_types.specs.Values.{TypeHead, TypeItem, TypeRecord}
 use Rattle.bpfcanon_c.specs.declared.btf_rows.{TypeRow.TypeRow, ItemRow.ItemRow}
 use Rattle.bpfcanon_c.specs.declared.btf_plain.NamesPart.{NamesPart}
-use Rattle.bpfcanon_c.specs.BtfRows.{type_row}
-use Rattle.bpfcanon_c.specs.BtfSaying.{IsNamed, IsNear, AreNear, TellsType, own_rows}
-use Rattle.bpfcanon_c.specs.BtfPlain.{IsNamesPart, HoldsName, HoldsNames, row_size}
-use Rattle.bpfcanon_c.specs.BtfRefusal.{HasName, HasNames, IsWhole, IsOtherAt}
+use Rattle.bpfcanon_c.specs.BtfRows.{item_row, type_row}
+use Rattle.bpfcanon_c.specs.BtfSaying.{IsNear, AreNear, own_rows}
+use Rattle.bpfcanon_c.specs.BtfPlain.{HasName, HasNames, IsWhole, IsNamesPart, HoldsName, HoldsNames, row_size}
 
 -- the part is within 16 MiB from `start` on
 pub record IsPartIn (start : ℕ) (p : NamesPart) : Type 0 where
@@ -72,12 +71,22 @@ TypeRefusal strings items p r _ = ⊥
 
 -- ---- comparison
 
--- the record says this head of a type with so many items
-pub record TellsHead (strings : List ℕ) (row : TypeRow) (count : ℕ) (head : TypeHead) : Type 0 where
-  pub form : row ≡ type_row row.name row.first count head
-  pub named : IsNamed strings row.name (head_name head)
+-- the record has the fields of the item, and a name of its length
+abbrev pub HasItemFields : ItemRow → TypeItem → Type 0
+HasItemFields row i = row ≡ item_row row.name i
 
--- the records don't say these types
-pub record IsUntold (strings : List ℕ) (types : List TypeRow) (items : List ItemRow) (v : List TypeRecord) (index : ℕ) : Type 0 where
-  pub at : IsOtherAt strings types items v index
-  pub none : ¬ AllZip (TellsType strings items) types v
+-- likewise a record and the head of a type with so many items
+abbrev pub HasHeadFields : TypeRow → ℕ → TypeHead → Type 0
+HasHeadFields row count head = row ≡ type_row row.name row.first count head
+
+-- likewise a record with those of its items and a type
+pub record HasFields (items : List ItemRow) (row : TypeRow) (r : TypeRecord) : Type 0 where
+  pub form : HasHeadFields row (length r.items) r.head
+  pub each : AllZip HasItemFields (own_rows items row) r.items
+
+-- the records before this index have the fields of their types, and this one hasn't; or there are more or fewer types than records
+pub record IsUnlike (types : List TypeRow) (items : List ItemRow) (v : List TypeRecord) (index : ℕ) : Type 0 where
+  pub before : AllZip (HasFields items) (take index types) (take index v)
+  pub here : (row : TypeRow) (r : TypeRecord) → length types ≡ length v → slice_get types index ≡ Some row → slice_get v index ≡ Some r → ¬ HasFields items row r
+  pub inside : (index < length types) ⊎ (index ≡ 0)
+  pub none : ¬ AllZip (HasFields items) types v

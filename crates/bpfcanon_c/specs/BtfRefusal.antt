@@ -1,5 +1,5 @@
 -- Why records say no valid types: the first fault that is found, with the index of its type.
-use Rattle.std.specs.Prelude.{◌≡◌, ◌≢◌, ◌⊎◌, ◌<◌, ◌≤◌, ◌+◌, ◌-◌, ℕ, IsTrue, IsFalse, Some, List, length, take, slice_get, slice_index}
+use Rattle.std.specs.Prelude.{◌≡◌, ◌≢◌, ◌⊎◌, ◌<◌, ◌≤◌, ◌+◌, ◌-◌, ℕ, IsFalse, Some, List, length, take, slice_get}
 use Rattle.std.specs.List.{All, AllZip, sum_by}
 use Rattle.btf_raw.specs.declared.cause.{BtfCause.BtfCause}
 use Rattle.btf_raw.specs.declared.cause.BtfCause.TheVariants.{TypeLength, StringLength, KindNumber, TailCut, NameRange}
@@ -8,24 +8,9 @@ use Rattle.btf_types.specs.{Values.TypeRecord, Denotes.Denotes, Faults.IsFirst}
 use Rattle.bpfcanon_c.specs.declared.btf_rows.{TypeRow.TypeRow, ItemRow.ItemRow}
 use Rattle.bpfcanon_c.specs.declared.btf_plain.Plan.{Plan}
 use Rattle.bpfcanon_c.specs.BtfSaying.{AreNear, TellsType, own_rows}
-use Rattle.bpfcanon_c.specs.BtfPlain.{IsPlan, plain, row_size}
+use Rattle.bpfcanon_c.specs.BtfPlain.{HasNames, IsWhole, IsPlan, plain, row_size}
 
 -- ---- first, what the records lack to be BTF
-
--- a name that isn't empty is in the strings, with a NUL after it
-pub record HasName (strings : List ℕ) (at len : ℕ) : Type 0 where
-  pub inside : 0 < len → at + len < length strings
-  pub nul : 0 < len → slice_index strings (at + len) ≡ 0
-
-pub record HasNames (strings : List ℕ) (items : List ItemRow) (row : TypeRow) : Type 0 where
-  pub name : HasName strings row.name row.name_len
-  pub names : All (λ i. HasName strings i.name i.name_len) (own_rows items row)
-
--- the type has a kind, all of its items, and its names
-pub record IsWhole (strings : List ℕ) (items : List ItemRow) (row : TypeRow) : Type 0 where
-  pub kind : IsTrue (is_kind row.kind)
-  pub all : 0 < item_words row.kind → length (own_rows items row) ≡ row.items
-  pub has : HasNames strings items row
 
 -- types that are whole, short enough and near enough to one another
 pub record CanBeWritten (strings : List ℕ) (types : List TypeRow) (items : List ItemRow) : Type 0 where

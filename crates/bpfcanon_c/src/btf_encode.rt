@@ -3,6 +3,9 @@
 //! Records are encoded before they are checked. Any records have BTF of some kind
 //! (`btf_plain.rt`), and `BtfView` of `btf_types` decides whether it is valid. The types that it
 //! denotes are then compared with the records. So no rule for a type is stated twice.
+//!
+//! Of a name only the length is compared: its bytes were copied, and those of one name may be the
+//! end of any number of others.
 
 ghost use Rattle.std.specs.Prelude.{◌≡◌, ◌↔◌, ◌<◌, ◌≤◌, IsTrue, MatchOption};
 ghost use Rattle.std.specs.Prelude.{MatchResult, length};
@@ -12,7 +15,6 @@ ghost use Rattle.btf_types.specs.tables.TableWords.{record_at};
 ghost use Rattle.bpfcanon_c.specs.BtfEncoding as spec;
 ghost use Rattle.bpfcanon_c.specs.BtfPlain.{IsPlan, plain as plain_of};
 ghost use Rattle.bpfcanon_c.specs.BtfPlanSteps as steps;
-ghost use Rattle.bpfcanon_c.specs.BtfSaying as say;
 
 use crate::answer::{Answer, Ending, FaultCode, order_from, put, report};
 use crate::btf_plain::{Plan, index_at, make_plan, own_items, plain_btf};
@@ -133,57 +135,36 @@ fn canonical_of_plain(
         }
         Err(BtfError::Memory) => return Err(Ending::Memory),
     };
-    match first_unsaid(types, items, strings, &table) {
+    match first_unlike(types, items, &table) {
         Some(index) => Err(no_type(0, index)),
         None => Ok(write_btf(alloc, to, &table)?),
     }
 }
 
-/// Whether `strings` has a name at this offset, with a NUL after it. An empty name is anywhere.
-fn has_name(strings: &[u8], at: u32, name: &[u8]) -> bool
-    ensures { IsTrue result ↔ say.IsNamed strings.now at name.now }
+/// Whether a record has the fields of this item.
+fn is_item(row: &ItemRow, item: Item<'_>) -> bool
+    ensures { IsTrue result ↔ steps.HasItemFields row.now (item_value item.entry) }
 {
-    if name.is_empty() {
-        return true;
-    }
-    let at = at as usize;
-    let nul = at + name.len();
-    if strings.len() <= nul || strings[nul] != 0 {
-        return false;
-    }
-    &strings[at..nul] == name
+    row.name_len as usize == item.name().len() && *row == item_row(row.name, item)
 }
 
-/// Whether a record says this item.
-fn says_item(strings: &[u8], row: &ItemRow, item: Item<'_>) -> bool
-    ensures { IsTrue result ↔ say.TellsItem strings.now row.now (item_value item.entry) }
+/// Whether a record has the fields of a type with this head and so many items.
+fn is_head(row: &TypeRow, count: u32, head: Head<'_>) -> bool
+    ensures { IsTrue result ↔ steps.HasHeadFields row.now count (head_value head.entry) }
 {
-    let name = item.name().as_bytes();
-    row.name_len as usize == name.len()
-        && *row == item_row(row.name, item)
-        && has_name(strings, row.name, name)
-}
-
-/// Whether a record says this head of a type with so many items.
-fn says_head(strings: &[u8], row: &TypeRow, count: u32, head: Head<'_>) -> bool
-    ensures { IsTrue result ↔ steps.TellsHead strings.now row.now count (head_value head.entry) }
-{
-    let name = head.name().as_bytes();
-    row.name_len as usize == name.len()
+    row.name_len as usize == head.name().len()
         && u32::from(row.items) == count
         && *row == type_row(row.name, row.first, row.items, head)
-        && has_name(strings, row.name, name)
 }
 
-/// Whether records say a type of the table with its items.
-fn says_type(strings: &[u8], items: &[ItemRow], row: &TypeRow, table: &BtfView<'_>, id: u32) -> bool
+/// Whether a record and those of its items have the fields of a type of the table.
+fn is_type(items: &[ItemRow], row: &TypeRow, table: &BtfView<'_>, id: u32) -> bool
     requires first { 0 < id }
     requires last { id ≤ length table.now }
-    ensures { IsTrue result ↔ say.TellsType strings.now items.now row.now
-        (record_at table.now id) }
+    ensures { IsTrue result ↔ steps.HasFields items.now row.now (record_at table.now id) }
 {
     let count = table.item_count(id);
-    if !says_head(strings, row, count, table.file_head(id)) {
+    if !is_head(row, count, table.file_head(id)) {
         return false;
     }
     let own = own_items(items, row);
@@ -191,28 +172,24 @@ fn says_type(strings: &[u8], items: &[ItemRow], row: &TypeRow, table: &BtfView<'
         return false;
     }
     for k in 0..count {
-        if !says_item(strings, &own[k as usize], table.file_item(id, k)) {
+        if !is_item(&own[k as usize], table.file_item(id, k)) {
             return false;
         }
     }
     true
 }
 
-/// The index of the first record that doesn't say the type of the table; `None` if all do.
-fn first_unsaid(
-    types: &[TypeRow],
-    items: &[ItemRow],
-    strings: &[u8],
-    table: &BtfView<'_>,
-) -> Option<usize>
-    ensures { MatchOption result (AllZip (say.TellsType strings.now items.now) types.now table.now)
-        (steps.IsUntold strings.now types.now items.now table.now) }
+/// The index of the first record that hasn't the fields of the type of the table; `None` if all
+/// have them.
+fn first_unlike(types: &[TypeRow], items: &[ItemRow], table: &BtfView<'_>) -> Option<usize>
+    ensures { MatchOption result (AllZip (steps.HasFields items.now) types.now table.now)
+        (steps.IsUnlike types.now items.now table.now) }
 {
     if types.len() != table.count() as usize {
         return Some(0);
     }
     for k in 0..types.len() {
-        if !says_type(strings, items, &types[k], table, k as u32 + 1) {
+        if !is_type(items, &types[k], table, k as u32 + 1) {
             return Some(k);
         }
     }

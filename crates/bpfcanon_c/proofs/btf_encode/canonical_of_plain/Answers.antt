@@ -4,13 +4,16 @@ use Rattle.btf_raw.specs.{declared.cause.BtfFault.BtfFault, Cause.number_of}
 use Rattle.btf_types.specs.{declared.error.BtfError.BtfError, declared.error.BtfError.TheVariants.Fault, tables.Tables.Fails}
 use Rattle.bpfcanon_c.specs.BtfRefusal.{IsIndexAt}
 use Rattle.bpfcanon_c.proofs.BtfDenoted.{is_encoded}
+use Rattle.bpfcanon_c.proofs.BtfReadBack.{all_back}
 use Rattle.bpfcanon_c.proofs.BtfRefused.{refused_faulty, refused_other}
 use Rattle.bpfcanon_c.proofs.btf_encode.canonical_of_plain.Goals as goal
 
 pub returns : goal.returns
 returns c =
-    is_encoded c.args.to c.args.types.now c.args.items.now c.args.strings.now c.args.plan _ c.in_ok-write_btf-in-None.field-0.items c.requires.plan c.in_ok-write_btf-in-None.ensures.accepted.valid
-    c.in-None.ensures c.in_ok-write_btf-in-None.ensures.form
+    let out = c.in_ok-write_btf-in-None.field-0.items in
+    is_encoded c.args.to c.args.types.now c.args.items.now c.args.strings.now c.args.plan _ out c.requires.plan c.in_ok-write_btf-in-None.ensures.accepted.valid
+    (all_back c.args.types.now c.args.items.now c.args.strings.now c.args.plan c.args.plain.now _ c.requires.plan c.requires.plain c.in-Ok.ensures c.in-None.ensures)
+    c.in_ok-write_btf-in-None.ensures.form
 
 pub returns-in-Some : goal.returns-in-Some
 returns-in-Some c = record {
