@@ -259,10 +259,17 @@ static bpfcanon_answer check_insns(const struct request *request)
 	return bpfcanon_proved_insn_same(request->order, request->bytes, request->len, request->to, &nowhere, 0);
 }
 
-/* What a call returns that has no memory and has freed its blocks: a fault is one whatever memory there is. */
+/* What a call returns that has no memory and has freed its blocks: what is wrong with its arguments is so whatever memory there is. */
 static bpfcanon_answer no_memory(bpfcanon_answer checked)
 {
-	return checked.status == BPFCANON_STATUS_FAULT || checked.status == BPFCANON_STATUS_ORDER ? checked : ended(BPFCANON_STATUS_OUT_OF_MEMORY);
+	switch (checked.status) {
+	case BPFCANON_STATUS_FAULT:
+	case BPFCANON_STATUS_ORDER:
+	case BPFCANON_STATUS_ALIGNMENT:
+		return checked;
+	default:
+		return ended(BPFCANON_STATUS_OUT_OF_MEMORY);
+	}
 }
 
 /* Writes into a block of this capacity, with one byte more for a NUL. */
@@ -490,7 +497,7 @@ static const struct meaning line_causes[] = {
 };
 
 static const struct meaning btf_causes[] = {
-	{ NULL, NULL },
+	{ "Record", "the record is not that of a type" },
 	{ "ShortHeader", "the file has fewer than 24 bytes" },
 	{ "Magic", "the file does not begin with the BTF magic number in either byte order" },
 	{ "Version", "the version is not 1" },
@@ -646,11 +653,11 @@ const char *bpfcanon_btf_cause_text(uint32_t cause)
 	return MEANING(btf_causes, cause)->text;
 }
 
-/* A cause of an object file, or of .BTF in it. */
+/* A cause of an object file, or of .BTF in it. A file has no records. */
 static const struct meaning *object_meaning(uint32_t cause)
 {
-	return cause <= BPFCANON_BTF_CAUSE_MAX ? MEANING(btf_causes, cause)
-	                                    : MEANING(object_causes, cause - BPFCANON_OBJECT_CAUSE_FILE_TOO_LARGE);
+	return cause && cause <= BPFCANON_BTF_CAUSE_MAX ? MEANING(btf_causes, cause)
+	                                             : MEANING(object_causes, cause - BPFCANON_OBJECT_CAUSE_FILE_TOO_LARGE);
 }
 
 const char *bpfcanon_object_cause_name(uint32_t cause)

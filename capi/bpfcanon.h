@@ -679,13 +679,22 @@ bpfcanon_answer bpfcanon_btf_decode(const uint8_t *bytes, size_t len, bpfcanon_b
  *   - The other fields that a kind doesn't have have to be 0.
  *
  * With BPFCANON_STATUS_FAULT `offset` is the index of a type that can't be encoded, also if one of
- * its items is at fault, and `cause` is that of the first of these faults:
- *   - A type has no kind (BPFCANON_BTF_CAUSE_KIND_NUMBER), its items run past the array
- *     (_TAIL_CUT), or a name runs past `strings` or has no NUL (_NAME_RANGE); the names so far are
- *     more than 16 MiB apart (_STRING_LENGTH), or the records longer than 32 MiB (_TYPE_LENGTH).
- *   - The first fault of the BTF, as bpfcanon_btf_canon would report it.
- *   - 0: a field that has to be 0 isn't, a number is too large for its field in BTF, an item is of
- *     another kind, or a name has a NUL.
+ * its items is at fault, and `cause` says why. Of several faults the first in this order is
+ * reported, and of two that are alike that of the type with the lower index:
+ *   1. What a record needs to be written, type by type: it has no kind
+ *      (BPFCANON_BTF_CAUSE_KIND_NUMBER); its items run past the array (_TAIL_CUT); its name, or
+ *      then that of an item, in order and even of an ENTRY, runs past `strings` or has no NUL
+ *      (_NAME_RANGE), or with it the names so far, from the first byte of one to the NUL after
+ *      another, extend over 16 MiB or more (_STRING_LENGTH); the records so far are longer than
+ *      32 MiB in BTF (_TYPE_LENGTH).
+ *   2. The first fault of the BTF that is written so, as bpfcanon_btf_canon would report it. A
+ *      number that its field in BTF can't hold is written without its high bits, except that a bit
+ *      offset of more than 24 bits is added to the width of a bit-field, and that any negative
+ *      component is -1. A name ends at its first NUL. `items` of a kind without items is written
+ *      too (_VLEN), but not of a FUNC.
+ *   3. 0, whose name is "Record", type by type: the BTF doesn't say what the record says. A field
+ *      that has to be 0 isn't, a number is too large for its field in BTF, an item is of another
+ *      kind, or a name has a NUL.
  *
  * A capacity of 25 bytes, 24 for each type, 12 for each item of each type, and `strings_len` is
  * always enough.
@@ -750,8 +759,8 @@ bpfcanon_answer bpfcanon_object_check(const uint8_t *bytes, size_t len);
  * listing, a NUL that `written` doesn't count. Free the block with bpfcanon_free. `*out` is NULL
  * unless the status is BPFCANON_STATUS_DONE, and then it isn't, even if `written` is 0. The
  * statuses are those of the call without `_new`, except BPFCANON_STATUS_ROOM and
- * BPFCANON_STATUS_ALIGNMENT. A fault is reported even if there is no memory for the block; to find
- * one in instructions takes no memory.
+ * BPFCANON_STATUS_ALIGNMENT. A fault, an invalid order and an array that isn't aligned are reported
+ * even if there is no memory for the block; to find a fault in instructions takes no memory.
  */
 bpfcanon_answer bpfcanon_btf_canon_new(uint32_t to, const uint8_t *bytes, size_t len,
                                        uint8_t **out);
@@ -789,8 +798,9 @@ const char *bpfcanon_version(void);
 /*
  * The name of a status or cause, for example "Truncated", and a sentence that explains it, without
  * a full stop. The names and sentences of causes are those of docs/FAULTS.md; the cause 0 of
- * bpfcanon_insn_encode has one too, and bpfcanon_object_cause_name and _text also give those of
- * enum bpfcanon_btf_cause. NULL for any other number. The strings are static.
+ * bpfcanon_insn_encode and bpfcanon_btf_encode has them too, and bpfcanon_object_cause_name and
+ * _text also give those of enum bpfcanon_btf_cause. NULL for any other number. The strings are
+ * static.
  */
 const char *bpfcanon_status_name(uint32_t status);
 const char *bpfcanon_status_text(uint32_t status);

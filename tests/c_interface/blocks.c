@@ -179,6 +179,18 @@ static void try_long_name(uint32_t floats, uint32_t letters)
 	free(file);
 }
 
+/* Records that aren't aligned are refused as such, also if there is no memory. */
+static void try_odd_addresses(void)
+{
+	const void *odd = room[0] + 1;
+	uint8_t *block = &marker;
+
+	allowed = refuses_one = 0;
+	CHECK(is(bpfcanon_btf_encode_new(0, odd, 1, NULL, 0, NULL, 0, &block), ended(BPFCANON_STATUS_ALIGNMENT)) && !block);
+	CHECK(is(bpfcanon_btf_encode_new(0, types, 1, odd, 1, NULL, 0, &block), ended(BPFCANON_STATUS_ALIGNMENT)) && !block);
+	allowed = -1;
+}
+
 int main(int argc, char **argv)
 {
 	if (argc != 2)
@@ -193,5 +205,6 @@ int main(int argc, char **argv)
 	try_long_name(40, 100000);
 	/* A listing of 1,325 bytes of a file of 331: one more than the first block. */
 	try_long_name(5, 245);
+	try_odd_addresses();
 	return end("blocks");
 }

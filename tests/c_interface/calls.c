@@ -65,13 +65,13 @@ static void numbers_have_names(void)
 	} rows[] = {
 		{ bpfcanon_status_name, bpfcanon_status_text, BPFCANON_STATUS_DONE, BPFCANON_STATUS_ALIGNMENT, "Done",
 		  "the call is done, or the two inputs are the same" },
-		/* A fault of bpfcanon_insn_encode has the cause 0. */
+		/* A fault of a call that encodes may have the cause 0. */
 		{ bpfcanon_insn_cause_name, bpfcanon_insn_cause_text, 0, BPFCANON_INSN_CAUSE_MAX, "Record",
 		  "the record is not that of an instruction" },
 		{ bpfcanon_line_cause_name, bpfcanon_line_cause_text, 1, BPFCANON_LINE_CAUSE_MAX, "Char",
 		  "a character that is neither blank nor part of a token" },
-		{ bpfcanon_btf_cause_name, bpfcanon_btf_cause_text, 1, BPFCANON_BTF_CAUSE_MAX, "ShortHeader",
-		  "the file has fewer than 24 bytes" },
+		{ bpfcanon_btf_cause_name, bpfcanon_btf_cause_text, 0, BPFCANON_BTF_CAUSE_MAX, "Record",
+		  "the record is not that of a type" },
 		/* Those of BTF are below it. */
 		{ bpfcanon_object_cause_name, bpfcanon_object_cause_text, BPFCANON_OBJECT_CAUSE_FILE_TOO_LARGE, BPFCANON_OBJECT_CAUSE_MAX,
 		  "FileTooLarge", "the file is longer than 64 MiB" },

@@ -70,16 +70,19 @@ static void decoded_types_are_encoded(const char *folder)
 	}
 }
 
-/* Encodes records in which one field of the type with an index, or of the item, has another value. Nothing is written. */
-#define REFUSED(index, cause, field, value) \
+/* Encodes records after a change of `given`. They are refused for the type with an index, and nothing is written. */
+#define REFUSED_AFTER(index, cause, change) \
 	do { \
 		struct records given = right; \
 		uint8_t out[sizeof file], *block = out; \
 		memset(out, 0xaa, sizeof out); \
-		given.field = value; \
+		change; \
 		CHECK(is(encode(&given, out, sizeof out), fault(cause, index)) && is_filled(out, out + sizeof out)); \
 		CHECK(is(bpfcanon_btf_encode_new(0, given.types, 2, given.items, 1, STRINGS, &block), fault(cause, index)) && !block); \
 	} while (0)
+
+/* Likewise if one field of the type, or of the item, has another value. */
+#define REFUSED(index, cause, field, value) REFUSED_AFTER(index, cause, given.field = (value))
 
 static void what_no_btf_has_is_refused(void)
 {
@@ -112,6 +115,54 @@ static void what_no_btf_has_is_refused(void)
 	REFUSED(1, BPFCANON_BTF_CAUSE_REFERENCE, items[0].target, UINT32_MAX);
 	REFUSED(0, BPFCANON_BTF_CAUSE_INT_WORD, types[0].bits, 33);
 	REFUSED(1, BPFCANON_BTF_CAUSE_MEMBER_PLACE, items[0].bit_offset, 30);
+}
+
+/* Of two faults that which is first in the order of the header. */
+static void the_first_fault_is_reported(void)
+{
+	/* type by type, what a record needs to be written: kind, items, its name, those of its items */
+	REFUSED_AFTER(0, BPFCANON_BTF_CAUSE_NAME_RANGE, (given.types[1].kind = 0, given.types[0].name = 7));
+	REFUSED_AFTER(1, BPFCANON_BTF_CAUSE_KIND_NUMBER, (given.types[1].kind = 20, given.types[1].name = 7));
+	REFUSED_AFTER(1, BPFCANON_BTF_CAUSE_TAIL_CUT, (given.types[1].items = 2, given.types[1].name = 7));
+	/* then the BTF */
+	REFUSED_AFTER(1, BPFCANON_BTF_CAUSE_TAIL_CUT, (given.types[1].items = 2, given.types[0].bits = 33));
+	REFUSED_AFTER(0, BPFCANON_BTF_CAUSE_VLEN, (given.types[0].items = 1));
+	REFUSED_AFTER(1, BPFCANON_BTF_CAUSE_REFERENCE, (given.items[0].target = 3, given.types[0].target = 1));
+	REFUSED_AFTER(1, BPFCANON_BTF_CAUSE_MEMBER_PLACE, (given.items[0].width = 256 + 3, given.items[0].bit_offset = 30));
+}
+
+/* Names that extend over 16 MiB, with the NUL of the last: the section begins with a NUL too, and may have no more. */
+static void names_that_are_far_apart_are_refused(void)
+{
+	static const uint32_t far = (1 << 24) - 2;
+	static const struct {
+		uint32_t name, item_name, cause; /* of the second type, and of its item */
+	} rows[] = {
+		{ far, 1, BPFCANON_BTF_CAUSE_STRING_LENGTH },
+		{ 1, far, BPFCANON_BTF_CAUSE_STRING_LENGTH },
+		/* its own name comes first; there is no NUL after the n at 0 */
+		{ far, 0, BPFCANON_BTF_CAUSE_STRING_LENGTH },
+		{ 0, far, BPFCANON_BTF_CAUSE_NAME_RANGE },
+	};
+	char *names = (char *)allocate(far + 2);
+	struct records given = right;
+	uint8_t *out;
+
+	memset(names, 0, far + 2);
+	names[0] = names[1] = names[far] = 'n';
+	given.types[0].name = 0;
+	given.types[0].name_len = 2;
+	given.types[1].name_len = given.items[0].name_len = 1;
+	for (size_t k = 0; k < COUNT(rows); k++) {
+		given.types[1].name = rows[k].name;
+		given.items[0].name = rows[k].item_name;
+		CHECK(is(bpfcanon_btf_encode_new(0, given.types, 2, given.items, 1, names, far + 2, &out), fault(rows[k].cause, 1)) && !out);
+	}
+	given.types[0].name = given.types[0].name_len = given.items[0].name = 1;
+	given.types[1].name = far;
+	CHECK(bpfcanon_btf_encode_new(0, given.types, 2, given.items, 1, names, far + 2, &out).status == BPFCANON_STATUS_DONE);
+	bpfcanon_free(out);
+	free(names);
 }
 
 /* Types whose names are ends of one long name, as a file may have them: the time doesn't grow with the sum of the lengths of names. */
@@ -147,6 +198,8 @@ int main(int argc, char **argv)
 	types_are_encoded();
 	decoded_types_are_encoded(argv[1]);
 	what_no_btf_has_is_refused();
+	the_first_fault_is_reported();
+	names_that_are_far_apart_are_refused();
 	ends_of_one_name_take_little_time();
 	return end("encode");
 }

@@ -1,8 +1,9 @@
 -- The part of the strings that names use: one name or one type more, or the cause why there isn't one.
-use Rattle.std.proofs.Common.{◌≡◌, ◌<◌, ◌≤◌, ◌+◌, ◌-◌, ◌++◌, ◌∙◌, ℕ, List, [], ◌∷◌, length, take, get_or, refl, sym, ap, inl, inr, arith}
+use Rattle.std.proofs.Common.{◌≡◌, ◌<◌, ◌≤◌, ◌+◌, ◌-◌, ◌++◌, ◌∙◌, ℕ, List, [], ◌∷◌, length, take, get_or, refl, sym, ap, subst, inl, inr, arith}
+use Rattle.std.specs.Prelude.{slice_get}
 use Rattle.std.specs.List.{All, sum_by}
 use Rattle.std.proofs.lemmas.List.{take_more, take_all}
-use Rattle.std.proofs.lemmas.List.Elements.{All-head, All-more, All-same, All-take, All-weaker}
+use Rattle.std.proofs.lemmas.List.Elements.{All-head, All-more, All-same, All-weaker}
 use Rattle.std.proofs.lemmas.List.Sums.{sum_by_push, sum_by-take-le}
 use Rattle.std.proofs.lemmas.Option.{slice_get-get_or}
 use Rattle.btf_raw.specs.Header.{TYPES_LIMIT}
@@ -13,8 +14,8 @@ use Rattle.bpfcanon_c.specs.declared.btf_rows.{TypeRow.TypeRow, ItemRow.ItemRow}
 use Rattle.bpfcanon_c.specs.declared.btf_plain.NamesPart.{NamesPart}
 use Rattle.bpfcanon_c.specs.BtfSaying.{IsNear, AreNear, own_rows}
 use Rattle.bpfcanon_c.specs.BtfPlain.{HasName, IsWhole, IsNamesPart, HoldsName, HoldsNames, row_size}
-use Rattle.bpfcanon_c.specs.BtfPlanSteps.{IsLarger, AddsName, AddsNames, AddsType, AddsTypes, NameRefusal, TypeRefusal}
-use Rattle.bpfcanon_c.specs.BtfRefusal.{CanBeWritten, IsUnwritten, LastFault, IsIndexAt}
+use Rattle.bpfcanon_c.specs.BtfPlanSteps.{IsLarger, IsPartIn, AddsName, AddsNames, AddsType, AddsTypes, IsItemRefused, NameRefusal, TypeRefusal}
+use Rattle.bpfcanon_c.specs.BtfRefusal.{AreNearWith, CanBeWritten, HasItems, IsItemFault, IsUnwritten, LastFault, NameFault, IsIndexAt}
 
 record FirstAndNext {X : Type 0} (P : X → Type 0) (first : List X) (next : X) : Type 0 where
   first-all : All P first
@@ -44,17 +45,23 @@ names_more strings p q q' r own k d h before one = record {
       one.within start (before.within start in' name parts.first-all) parts.next-is;
 }
 
-pub own_refused : (strings : List ℕ) (items : List ItemRow) (p : NamesPart) (r : TypeRow) (c : BtfCause) → NameRefusal strings p r.name r.name_len c → TypeRefusal strings items p r c
-own_refused strings items p r NameRange none = λ has. none has.name
-own_refused strings items p r StringLength none = λ start in' near. none start in' near.own
-own_refused strings items p r c none = absurd none
-
-pub item_refused : (strings : List ℕ) (items : List ItemRow) (p q : NamesPart) (r : TypeRow) (k : ℕ) (d : ItemRow) (c : BtfCause) → k < length (own_rows items r)
-    → AddsNames strings p q r (take k (own_rows items r)) → NameRefusal strings q (get_or (own_rows items r) k d).name (get_or (own_rows items r) k d).name_len c → TypeRefusal strings items p r c
-item_refused strings items p q r k d NameRange h before none = λ has. none (has.names k d h)
-item_refused strings items p q r k d StringLength h before none = λ start in' near.
-    none start (before.within start in' near.own (All-take (λ (i : ItemRow). IsNear start i.name i.name_len) k (own_rows items r) near.each)) (near.each k d h)
-item_refused strings items p q r k d c h before none = absurd none
+pub item_refused : (strings : List ℕ) (items : List ItemRow) (p q : NamesPart) (r : TypeRow) (own : List ItemRow) (k : ℕ) (d : ItemRow) (c : BtfCause) → HasItems items r → own ≡ own_rows items r
+    → k < length own → AddsNames strings p q r (take k own) → NameRefusal strings q (get_or own k d).name (get_or own k d).name_len c → TypeRefusal strings items p r c
+item_refused strings items p q r own k d KindNumber has e h before none = absurd none
+item_refused strings items p q r own k d TailCut has e h before none = absurd none
+item_refused strings items p q r own k d c has e h before none = (
+  has,
+  inr (
+    k,
+    record {
+      item = get_or own k d;
+      item_is = ap (λ (t : List ItemRow). slice_get t k) (sym e) ∙ slice_get-get_or own k d h;
+      q = q;
+      before = subst (λ (t : List ItemRow). AddsNames strings p q r (take k t)) e before;
+      none = none;
+    },
+  ),
+)
 
 -- ---- one type more
 
@@ -99,15 +106,46 @@ written strings items p len types a = record {
   near = All-weaker (HoldsNames p items) (AreNear items p.start) (names_near strings items p a.part) types a.holds;
 }
 
-last_fault : (strings : List ℕ) (items : List ItemRow) (p : NamesPart) (len : ℕ) (types : List TypeRow) (k : ℕ) (d : TypeRow) (c : BtfCause) → k < length types → AddsTypes strings items p len (take k types)
-    → TypeRefusal strings items p (get_or types k d) c → LastFault strings items (take (k + 1) types) (get_or types k d) c
-last_fault strings items p len types k d KindNumber h before none = none
-last_fault strings items p len types k d TailCut h before none = none
-last_fault strings items p len types k d NameRange h before none = none
-last_fault strings items p len types k d StringLength h before none = λ start all.
-    let parts = all_of_more (AreNear items start) types k d h all in
-    none start (before.within start parts.first-all) parts.next-is
-last_fault strings items p len types k d c h before none = absurd none
+-- a fault with those names before it that are near by another word
+fault_with : (strings : List ℕ) (Before Before' : ℕ → Type 0) (at len : ℕ) (c : BtfCause) → ((start : ℕ) → Before' start → Before start) → NameFault strings Before at len c → NameFault strings Before' at len c
+fault_with strings Before Before' at len NameRange given fault = fault
+fault_with strings Before Before' at len StringLength given fault = (fault.0, λ start before. fault.1 start (given start before))
+fault_with strings Before Before' at len c given fault = absurd fault
+
+item_fault : (strings : List ℕ) (items : List ItemRow) (p : NamesPart) (len : ℕ) (types : List TypeRow) (r : TypeRow) (k : ℕ) (c : BtfCause) → AddsTypes strings items p len types
+    → IsItemRefused strings items p r k c → IsItemFault strings items types r k c
+item_fault strings items p len types r k c before none =
+    let own = take k (own_rows items r) in
+    let q = none.q in
+    let adds = none.before in
+    record {
+      item = none.item;
+      item_is = none.item_is;
+      has_name = adds.has_name;
+      has_names = adds.has_names;
+      start = q.start;
+      near = record {
+        types-near = All-weaker (HoldsNames p items) (AreNear items q.start) (λ r held. names_near strings items q adds.part r (still_held p q items adds.larger r held)) types before.holds;
+        name-near = name_near strings q r.name r.name_len adds.part adds.name;
+        names-near = All-weaker (λ (i : ItemRow). HoldsName q i.name i.name_len) (λ (i : ItemRow). IsNear q.start i.name i.name_len) (λ i held. name_near strings q i.name i.name_len adds.part held) own adds.names;
+      };
+      fault =
+          fault_with strings (λ start. IsPartIn start q) (AreNearWith items types r own) none.item.name none.item.name_len c
+          (λ start near. adds.within start (before.within start near.types-near) near.name-near near.names-near) none.none;
+    }
+
+last_fault : (strings : List ℕ) (items : List ItemRow) (p : NamesPart) (len : ℕ) (types : List TypeRow) (r : TypeRow) (c : BtfCause) → AddsTypes strings items p len types
+    → TypeRefusal strings items p r c → LastFault strings items types r c
+last_fault strings items p len types r KindNumber before none = none
+last_fault strings items p len types r TailCut before none = none
+last_fault strings items p len types r TypeLength before none = elim none.1 [ inl own ↦ absurd own | inr at ↦ absurd at.1.none ]
+last_fault strings items p len types r c before none = (
+  none.0,
+  elim none.1 [
+    | inl own ↦ inl (fault_with strings (λ start. IsPartIn start p) (λ start. All (AreNear items start) types) r.name r.name_len c before.within own)
+    | inr at ↦ inr (at.0, item_fault strings items p len types r at.0 c before at.1)
+  ],
+)
 
 pub unwritten : (strings : List ℕ) (items : List ItemRow) (p : NamesPart) (len : ℕ) (types : List TypeRow) (k : ℕ) (d : TypeRow) (c : BtfCause) → k < length types → AddsTypes strings items p len (take k types)
     → TypeRefusal strings items p (get_or types k d) c → IsUnwritten strings types items c k
@@ -115,16 +153,24 @@ unwritten strings items p len types k d c h before none = record {
   row = get_or types k d;
   row_is = slice_get-get_or types k d h;
   before = written strings items p len (take k types) before;
-  fault = last_fault strings items p len types k d c h before none;
+  fault = last_fault strings items p len (take k types) (get_or types k d) c before none;
 }
 
-pub too_long : (strings : List ℕ) (items : List ItemRow) (p : NamesPart) (len : ℕ) (types : List TypeRow) (k : ℕ) (d : TypeRow) → k < length types → AddsTypes strings items p len (take k types)
-    → TYPES_LIMIT < len + row_size (get_or types k d) → IsUnwritten strings types items TypeLength k
-too_long strings items p len types k d h before long = record {
+pub too_long : (strings : List ℕ) (items : List ItemRow) (p q : NamesPart) (len : ℕ) (types : List TypeRow) (k : ℕ) (d : TypeRow) → k < length types → AddsTypes strings items p len (take k types)
+    → AddsType strings items p q (get_or types k d) → TYPES_LIMIT < len + row_size (get_or types k d) → IsUnwritten strings types items TypeLength k
+too_long strings items p q len types k d h before one long = record {
   row = get_or types k d;
   row_is = slice_get-get_or types k d h;
   before = written strings items p len (take k types) before;
-  fault = omega (arith, sizes_are types k d h, before.size);
+  fault = (
+    one.whole,
+    (
+      q.start,
+      All-weaker (HoldsNames p items) (AreNear items q.start) (λ r held. names_near strings items q one.part r (still_held p q items one.larger r held)) (take k types) before.holds,
+      names_near strings items q one.part (get_or types k d) one.holds,
+    ),
+    omega (arith, before.size),
+  );
 }
 
 -- ---- where a record is

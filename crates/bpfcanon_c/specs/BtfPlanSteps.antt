@@ -1,15 +1,16 @@
 -- The plan of the BTF of records, made name by name and type by type.
-use Rattle.std.specs.Prelude.{◌≡◌, ◌≢◌, ◌⊎◌, ◌<◌, ◌≤◌, ◌+◌, ℕ, Some, List, IsFalse, length, take, slice_get}
+use Rattle.std.specs.Prelude.{◌≡◌, ◌≢◌, ◌⊎◌, ◌<◌, ◌≤◌, ◌+◌, ℕ, Some, List, IsTrue, IsFalse, length, take, slice_get}
 use Rattle.std.specs.List.{All, AllZip, sum_by}
 use Rattle.btf_raw.specs.declared.cause.BtfCause.{BtfCause}
-use Rattle.btf_raw.specs.declared.cause.BtfCause.TheVariants.{StringLength, KindNumber, TailCut, NameRange}
+use Rattle.btf_raw.specs.declared.cause.BtfCause.TheVariants.{KindNumber, TailCut}
 use Rattle.btf_raw.specs.{Header.STRINGS_LIMIT, Header.TYPES_LIMIT, Kinds.is_kind, Kinds.item_words}
 use Rattle.btf_types.specs.Values.{TypeHead, TypeItem, TypeRecord}
 use Rattle.bpfcanon_c.specs.declared.btf_rows.{TypeRow.TypeRow, ItemRow.ItemRow}
 use Rattle.bpfcanon_c.specs.declared.btf_plain.NamesPart.{NamesPart}
 use Rattle.bpfcanon_c.specs.BtfRows.{item_row, type_row}
 use Rattle.bpfcanon_c.specs.BtfSaying.{IsNear, AreNear, own_rows}
-use Rattle.bpfcanon_c.specs.BtfPlain.{HasName, HasNames, IsWhole, IsNamesPart, HoldsName, HoldsNames, row_size}
+use Rattle.bpfcanon_c.specs.BtfPlain.{HasName, IsWhole, IsNamesPart, HoldsName, HoldsNames, row_size}
+use Rattle.bpfcanon_c.specs.BtfRefusal.{HasItems, NameFault}
 
 -- the part is within 16 MiB from `start` on
 pub record IsPartIn (start : ℕ) (p : NamesPart) : Type 0 where
@@ -55,19 +56,23 @@ pub record AddsTypes (strings : List ℕ) (items : List ItemRow) (p : NamesPart)
   pub size : len ≡ sum_by row_size types
   pub fits : len ≤ TYPES_LIMIT
 
--- what each cause says of a name that isn't added
+-- what each cause says of a name that isn't added to a part
 abbrev pub NameRefusal : List ℕ → NamesPart → ℕ → ℕ → BtfCause → Type 0
-NameRefusal strings p at len NameRange = ¬ HasName strings at len
-NameRefusal strings p at len StringLength = (start : ℕ) → IsPartIn start p → ¬ IsNear start at len
-NameRefusal strings p at len _ = ⊥
+NameRefusal strings p at len cause = NameFault strings (λ start. IsPartIn start p) at len cause
 
--- likewise of a type
+-- the name of item k of a type is the first that isn't added
+pub record IsItemRefused (strings : List ℕ) (items : List ItemRow) (p : NamesPart) (r : TypeRow) (k : ℕ) (cause : BtfCause) : Type 0 where
+  pub item : ItemRow
+  pub item_is : slice_get (own_rows items r) k ≡ Some item
+  pub q : NamesPart
+  pub before : AddsNames strings p q r (take k (own_rows items r))
+  pub none : NameRefusal strings q item.name item.name_len cause
+
+-- what each cause says of a type that isn't added
 abbrev pub TypeRefusal : List ℕ → List ItemRow → NamesPart → TypeRow → BtfCause → Type 0
 TypeRefusal strings items p r KindNumber = IsFalse (is_kind r.kind)
-TypeRefusal strings items p r TailCut = (0 < item_words r.kind) × (length (own_rows items r) ≢ r.items)
-TypeRefusal strings items p r NameRange = ¬ HasNames strings items r
-TypeRefusal strings items p r StringLength = (start : ℕ) → IsPartIn start p → ¬ AreNear items start r
-TypeRefusal strings items p r _ = ⊥
+TypeRefusal strings items p r TailCut = IsTrue (is_kind r.kind) × (0 < item_words r.kind) × (length (own_rows items r) ≢ r.items)
+TypeRefusal strings items p r cause = HasItems items r × (NameRefusal strings p r.name r.name_len cause ⊎ ((k : ℕ) × IsItemRefused strings items p r k cause))
 
 -- ---- comparison
 

@@ -36,14 +36,15 @@ use std::alloc::Global;
 ///
 /// Status 6 if `to` is neither 0 nor 1; 4 if memory runs out; 5 with the length of the output if
 /// `out` is shorter; 2 if the records say no valid types, with the index of a type as position. Its
-/// cause is that of the first of these faults:
+/// cause is that of the first fault in this order:
 ///
-/// - A type lacks what BTF needs: a kind (`KindNumber`), one of its items (`TailCut`), or a name
-///   with a NUL after it (`NameRange`). Or the names of the types so far are more than 16 MiB apart
-///   (`StringLength`), or their records are longer than 32 MiB (`TypeLength`).
+/// - Type by type, what a record needs to be written: a kind (`KindNumber`); all of its items
+///   (`TailCut`); its name and then those of its items, each with a NUL after it (`NameRange`), and
+///   with the names before it in less than 16 MiB (`StringLength`); with the records before it at
+///   most 32 MiB (`TypeLength`).
 /// - The first fault of the BTF of the records.
-/// - 0 for a record that isn't that of its type: a field that the kind hasn't isn't 0, a number is
-///   too large, an item is of another kind, or a name has a NUL.
+/// - Type by type, 0 for a record that isn't that of its type: a field that the kind hasn't isn't 0,
+///   a number is too large, an item is of another kind, or a name has a NUL.
 ///
 /// `out` is unchanged unless the status is 0.
 #[unsafe(no_mangle)]

@@ -45,7 +45,8 @@ pub struct Plan {
 ///
 /// # Errors
 ///
-/// The cause if there is no such name with a NUL after it, or if the names are too far apart.
+/// The cause if there is no such name with a NUL after it; if there is, and the names are then too
+/// far apart.
 fn with_name(part: NamesPart, strings: &[u8], at: u32, len: u32) -> Result<NamesPart, BtfCause>
     requires { spec.IsNamesPart strings.now part }
     ensures { MatchResult result (λ more. steps.AddsName strings.now part more at len)
@@ -95,8 +96,8 @@ fn record_len(row: &TypeRow) -> usize
 ///
 /// # Errors
 ///
-/// The cause if the type has no kind or not all of its items and names, or if the names are too far
-/// apart.
+/// The cause of the first fault: the type has no kind, not all of its items, or a name with a fault,
+/// its own or then that of an item.
 fn with_type(
     part: NamesPart,
     strings: &[u8],

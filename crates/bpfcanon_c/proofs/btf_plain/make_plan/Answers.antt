@@ -11,8 +11,8 @@ loop-k-preserved c =
 
 pub returns-then-types_len-gt-TYPES_LIMIT : goal.returns-then-types_len-gt-TYPES_LIMIT
 returns-then-types_len-gt-TYPES_LIMIT c =
-    too_long c.args.strings.now c.args.items.now c.loop-k.names c.loop-k.types_len c.args.types.now c.loop-k.k (bare_type 0)
-    c.loop-k-test.true c.loop-k.invariant (omega (arith, c.record_len-types_len.ensures.is))
+    too_long c.args.strings.now c.args.items.now c.loop-k.names c.in-Ok.more c.loop-k.types_len c.args.types.now c.loop-k.k (bare_type 0)
+    c.loop-k-test.true c.loop-k.invariant c.in-Ok.ensures (omega (arith, c.record_len-types_len.ensures.is))
 
 pub returns-in-Err : goal.returns-in-Err
 returns-in-Err c =
