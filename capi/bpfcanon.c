@@ -138,11 +138,8 @@ static bpfcanon_insn no_insn;
 static bpfcanon_btf_type no_type;
 static bpfcanon_btf_item no_item;
 
-/* Whether an array of records is aligned as bpfcanon.h demands. A null pointer is. */
-static int is_aligned(const void *records)
-{
-	return (uintptr_t)records % 8 == 0;
-}
+/* Whether an array of records is aligned as C aligns its type. A null pointer is. */
+#define IS_ALIGNED(type, records) ((uintptr_t)(records) % _Alignof(type) == 0)
 
 static bpfcanon_answer ended(uint32_t status)
 {
@@ -155,7 +152,7 @@ static bpfcanon_answer ended(uint32_t status)
 bpfcanon_answer bpfcanon_insn_decode(uint32_t order, const uint8_t *bytes, size_t len,
                                      bpfcanon_insn *out, size_t capacity)
 {
-	if (!is_aligned(out))
+	if (!IS_ALIGNED(bpfcanon_insn, out))
 		return ended(BPFCANON_STATUS_ALIGNMENT);
 	return bpfcanon_proved_insn_decode(order, input(bytes, len), len, out || capacity ? out : &no_insn,
 	                                   capacity);
@@ -164,7 +161,7 @@ bpfcanon_answer bpfcanon_insn_decode(uint32_t order, const uint8_t *bytes, size_
 bpfcanon_answer bpfcanon_insn_encode(uint32_t to, const bpfcanon_insn *insns, size_t count,
                                      uint8_t *out, size_t capacity)
 {
-	if (!is_aligned(insns))
+	if (!IS_ALIGNED(bpfcanon_insn, insns))
 		return ended(BPFCANON_STATUS_ALIGNMENT);
 	return bpfcanon_proved_insn_encode(to, insns || count ? insns : &no_insn, count,
 	                                   output(out, capacity), capacity);
@@ -174,7 +171,7 @@ bpfcanon_answer bpfcanon_btf_decode(const uint8_t *bytes, size_t len, bpfcanon_b
                                     size_t types_capacity, bpfcanon_btf_item *items,
                                     size_t items_capacity)
 {
-	if (!is_aligned(types) || !is_aligned(items))
+	if (!IS_ALIGNED(bpfcanon_btf_type, types) || !IS_ALIGNED(bpfcanon_btf_item, items))
 		return ended(BPFCANON_STATUS_ALIGNMENT);
 	return bpfcanon_proved_btf_decode(input(bytes, len), len,
 	                                  types || types_capacity ? types : &no_type, types_capacity,
@@ -186,7 +183,7 @@ bpfcanon_answer bpfcanon_btf_encode(uint32_t to, const bpfcanon_btf_type *types,
                                     size_t items_count, const char *strings, size_t strings_len,
                                     uint8_t *out, size_t capacity)
 {
-	if (!is_aligned(types) || !is_aligned(items))
+	if (!IS_ALIGNED(bpfcanon_btf_type, types) || !IS_ALIGNED(bpfcanon_btf_item, items))
 		return ended(BPFCANON_STATUS_ALIGNMENT);
 	return bpfcanon_proved_btf_encode(to, types || types_count ? types : &no_type, types_count,
 	                                  items || items_count ? items : &no_item, items_count,
@@ -467,7 +464,7 @@ static const struct meaning statuses[] = {
 	{ "OutOfMemory", "out of memory" },
 	{ "Room", "the output is longer than the capacity of its buffer" },
 	{ "Order", "a number is not that of a byte order" },
-	{ "Alignment", "an array of records is not aligned to 8 bytes" },
+	{ "Alignment", "an array of records is not aligned as C aligns its type" },
 };
 
 static const struct meaning insn_causes[] = {

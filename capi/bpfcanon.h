@@ -33,7 +33,8 @@
  *
  * Records. bpfcanon_insn, bpfcanon_btf_type and bpfcanon_btf_item have integers as fields and no
  * padding, so that they can be compared and hashed as bytes. They will not grow: a new field would
- * be in a new struct. Arrays of them are aligned to 8 bytes, as malloc's blocks are.
+ * be in a new struct. Arrays of them are aligned as C aligns them: to 4 bytes for
+ * bpfcanon_btf_type, and to 8 for the others.
  *
  * Encodings. Listings that are written, and the names and sentences of causes and statuses, are
  * ASCII. A listing that is read is ASCII too, except in its comments, which may have any bytes: any
@@ -101,7 +102,7 @@ enum bpfcanon_status {
 	BPFCANON_STATUS_ROOM = 5,
 	/* an argument is not a valid byte order */
 	BPFCANON_STATUS_ORDER = 6,
-	/* an array of records, even an empty one, is not aligned to 8 bytes: nothing was read */
+	/* an array of records, even an empty one, is not aligned: nothing was read */
 	BPFCANON_STATUS_ALIGNMENT = 7
 };
 
@@ -674,8 +675,8 @@ bpfcanon_answer bpfcanon_btf_decode(const uint8_t *bytes, size_t len, bpfcanon_b
  * bpfcanon_btf_decode sets them, with names in `strings`, which may be the input that was decoded:
  *   - `name` is the offset of a name of `name_len` bytes, and a NUL follows it in `strings`. Names
  *     may share bytes. If `name_len` is 0 there is no name, and `name` isn't read.
- *   - The items of a type are `items` items from `first` on, which isn't read if `items` is 0.
- *     Types may share items.
+ *   - The items of a type are `items` items from `first` on. If `items` is 0, or the kind has no
+ *     items, `first` isn't read. Types may share items.
  *   - The other fields that a kind doesn't have have to be 0.
  *
  * With BPFCANON_STATUS_FAULT `offset` is the index of a type that can't be encoded, also if one of

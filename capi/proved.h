@@ -2,7 +2,7 @@
  * The calls that are written in Rattle (crates/bpfcanon_c), for bpfcanon.c only: this header is
  * not installed, and the library doesn't export them. They are those of bpfcanon.h with proved_ in
  * their names and uint8_t for characters. No pointer may be null, even if its length is 0, and
- * arrays of records are aligned to 8 bytes.
+ * arrays of records are aligned as C aligns them.
  */
 #ifndef BPFCANON_PROVED_H
 #define BPFCANON_PROVED_H

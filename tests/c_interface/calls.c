@@ -94,7 +94,7 @@ static void statuses_have_these_names(void)
 	static const char *const texts[] = {
 		"the call is done, or the two inputs are the same", "the two inputs are different", "the input, or the first of two, has a fault",
 		"the second of two inputs has a fault, and the first has none", "out of memory", "the output is longer than the capacity of its buffer",
-		"a number is not that of a byte order", "an array of records is not aligned to 8 bytes",
+		"a number is not that of a byte order", "an array of records is not aligned as C aligns its type",
 	};
 
 	_Static_assert(COUNT(names) == BPFCANON_STATUS_ALIGNMENT + 1 && COUNT(texts) == COUNT(names), "a row for each status");

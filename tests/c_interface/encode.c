@@ -39,9 +39,35 @@ static void types_are_encoded(void)
 	for (size_t k = 1; k < 8; k++) {
 		const uint8_t *odd = (const uint8_t *)&right + k;
 
-		CHECK(is(bpfcanon_btf_encode(2, (const void *)odd, 1, right.items, 1, STRINGS, out, sizeof out), ended(BPFCANON_STATUS_ALIGNMENT)));
+		CHECK(is(bpfcanon_btf_encode(2, (const void *)odd, 1, right.items, 1, STRINGS, out, sizeof out),
+		         ended(k == 4 ? BPFCANON_STATUS_ORDER : BPFCANON_STATUS_ALIGNMENT)));
 		CHECK(is(bpfcanon_btf_encode(2, right.types, 1, (const void *)odd, 0, STRINGS, out, sizeof out), ended(BPFCANON_STATUS_ALIGNMENT)));
 	}
+}
+
+/* Wherever C places a type: here at 4 bytes after a multiple of 8. */
+static void types_are_placed_anywhere(void)
+{
+	static const _Alignas(8) struct {
+		uint32_t before;
+		bpfcanon_btf_type type;
+	} odd = { 0, { .kind = BPFCANON_BTF_KIND_PTR } };
+	uint8_t out[24 + 12 + 1];
+
+	CHECK(is(bpfcanon_btf_encode(BPFCANON_ORDER_LITTLE, &odd.type, 1, NULL, 0, NULL, 0, out, sizeof out), written(sizeof out)));
+}
+
+/* A STRUCT without a name and items, of which `name` and `first` are uninitialised: valgrind shows if a branch depends on them. */
+static void fields_without_a_meaning_are_not_read(void)
+{
+	const size_t name_len = offsetof(bpfcanon_btf_type, name_len);
+	const bpfcanon_btf_type empty = { .kind = BPFCANON_BTF_KIND_STRUCT };
+	uint8_t *block = allocate(sizeof empty), out[24 + 12 + 1];
+
+	memcpy(block, &empty, offsetof(bpfcanon_btf_type, name));
+	memcpy(block + name_len, (const uint8_t *)&empty + name_len, offsetof(bpfcanon_btf_type, first) - name_len);
+	CHECK(is(bpfcanon_btf_encode(BPFCANON_ORDER_LITTLE, (const void *)block, 1, NULL, 0, NULL, 0, out, sizeof out), written(sizeof out)));
+	free(block);
 }
 
 /* Each compiled file, to both byte orders: decoded and encoded it is canonical. Its names stay where they are. */
@@ -197,6 +223,8 @@ int main(int argc, char **argv)
 		return 2;
 	types_are_encoded();
 	decoded_types_are_encoded(argv[1]);
+	types_are_placed_anywhere();
+	fields_without_a_meaning_are_not_read();
 	what_no_btf_has_is_refused();
 	the_first_fault_is_reported();
 	names_that_are_far_apart_are_refused();

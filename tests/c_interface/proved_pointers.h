@@ -10,7 +10,7 @@
 
 static long proved_calls;
 
-#define IS_ALIGNED(records) ((records) && (uintptr_t)(records) % 8 == 0)
+#define IS_ALIGNED(records) ((records) && (uintptr_t)(records) % __alignof__(*(records)) == 0)
 
 /* Defines a proved call that checks its pointers first. */
 #define NO_NULL(answer, call, parameters, arguments, pointers) \

@@ -72,11 +72,11 @@ fn with_name(part: NamesPart, strings: &[u8], at: u32, len: u32) -> Result<Names
     Ok(NamesPart { start, end })
 }
 
-/// The items of a type that are in the array.
+/// The items of a type that are in the array. `first` isn't read if it has none.
 pub fn own_items<'a>(items: &'a [ItemRow], row: &TypeRow) -> &'a [ItemRow]
     ensures { result.now ≡ own_rows items.now row.now }
 {
-    if item_words(row.kind) == 0 {
+    if row.items == 0 || item_words(row.kind) == 0 {
         return &items[..0];
     }
     let first = items.len().min(row.first as usize);
