@@ -13,8 +13,8 @@ type EncodeBTFError struct {
 	// Type is that Type.
 	Type Type
 	// Cause is what is wrong, for example ErrBTFReference if an ID is over the number of types. It is 0
-	// for a value that no BTF holds: nil, Void, a pointer to one of the structs, a name with a NUL
-	// byte, a number that its field can't hold, or more than 65,535 items.
+	// for a value that no BTF holds: nil, a pointer to one of the structs, a name with a NUL byte, a
+	// number that its field can't hold, or more than 65,535 items.
 	Cause BTFCause
 }
 
@@ -41,10 +41,15 @@ func (e *EncodeBTFError) Unwrap() error {
 // The names, each counted once and with a NUL, are at most 16 MiB long, and the records of the types
 // at most 32 MiB.
 //
-// Errors: an *EncodeBTFError for a Type that can't be encoded; ErrOutOfMemory, ErrOrder. The limits are
-// checked first, then the rules of BTF, and then whether BTF can hold the values.
+// Errors: an *EncodeBTFError for a Type that can't be encoded; ErrOutOfMemory, ErrOrder. A Type that has
+// no record of bpfcanon.h comes before all others: nil, a pointer, more than 65,535 items, or a
+// component that isn't WholeType or an index of 31 bits. The order of the other faults is that of
+// bpfcanon_btf_encode in bpfcanon.h.
 func EncodeBTF(to Order, types []Type) ([]byte, error) {
-	b := recordsOf(types)
+	b, err := recordsOf(types)
+	if err != nil {
+		return nil, err
+	}
 	// A type has at most 24 bytes without its items, and an item 12.
 	out := make([]byte, least(BTFMax, 32+24*len(b.types)+12*len(b.items)+len(b.strings)))
 	got := capi.BTFEncode(capi.Order(to), b.types, b.items, b.strings, out)

@@ -89,7 +89,6 @@ var refusedTypes = []struct {
 	cause bpfcanon.BTFCause
 }{
 	{nil, 0},
-	{bpfcanon.Void{}, 0},
 	{&bpfcanon.Ptr{}, 0},
 	{(*bpfcanon.Struct)(nil), 0},
 	{bpfcanon.Fwd{Name: "a\x00"}, 0},
@@ -102,6 +101,7 @@ var refusedTypes = []struct {
 	{enumOf(true, 1<<64-1<<31-1), 0},
 	{bpfcanon.DeclTag{Name: "a", Target: 1, Component: -2}, 0},
 	{bpfcanon.DeclTag{Name: "a", Target: 1, Component: 1<<32 - 1}, 0},
+	{bpfcanon.Void{}, bpfcanon.ErrBTFKindNumber},
 	{bpfcanon.Ptr{Target: 9}, bpfcanon.ErrBTFReference},
 	{bpfcanon.Array{Target: 1, Index: 1<<32 - 1}, bpfcanon.ErrBTFReference},
 	{structOf(bpfcanon.Member{}, bpfcanon.Member{Target: 9}), bpfcanon.ErrBTFReference},
@@ -144,12 +144,24 @@ func TestTheTypeThatIsRefusedIsNamed(t *testing.T) {
 	}
 }
 
-// A type with a fault is reported before an earlier one that no BTF holds, and of two the first.
+// Of several types that are refused the first in the order of bpfcanon.h is reported.
 func TestTheFirstTypeThatIsRefused(t *testing.T) {
-	fault, none := bpfcanon.Ptr{Target: 9}, bpfcanon.Void{}
-	wantRefused(t, []bpfcanon.Type{bpfcanon.Ptr{}, fault, bpfcanon.Typedef{}}, 1, bpfcanon.ErrBTFReference)
-	wantRefused(t, []bpfcanon.Type{none, fault, fault}, 1, bpfcanon.ErrBTFReference)
-	wantRefused(t, []bpfcanon.Type{bpfcanon.Ptr{}, none, none}, 1, 0)
+	fault, wide := bpfcanon.Ptr{Target: 9}, enumOf(false, 1<<32)
+	noRecord := bpfcanon.FuncProto{Params: make([]bpfcanon.Param, 1<<16)}
+	for _, row := range []struct {
+		types []bpfcanon.Type
+		index int
+		cause bpfcanon.BTFCause
+	}{
+		{[]bpfcanon.Type{bpfcanon.Void{}, fault, noRecord}, 2, 0},
+		{[]bpfcanon.Type{bpfcanon.Func{Name: "f", Target: 2}, noRecord}, 1, 0},
+		{[]bpfcanon.Type{fault, wide, bpfcanon.Void{}}, 2, bpfcanon.ErrBTFKindNumber},
+		{[]bpfcanon.Type{wide, fault, bpfcanon.Typedef{}}, 1, bpfcanon.ErrBTFReference},
+		{[]bpfcanon.Type{bpfcanon.Ptr{}, wide, wide}, 1, 0},
+		{[]bpfcanon.Type{bpfcanon.Enum{Size: 3, Values: []bpfcanon.EnumValue{{Name: "a", Value: 1 << 32}}}}, 0, bpfcanon.ErrBTFSize},
+	} {
+		wantRefused(t, row.types, row.index, row.cause)
+	}
 }
 
 func TestSectionsHaveALimit(t *testing.T) {
@@ -173,7 +185,7 @@ func TestSectionsHaveALimit(t *testing.T) {
 
 func TestErrorsOfEncodingNameTheType(t *testing.T) {
 	for want, it := range map[string]bpfcanon.Type{
-		"bpfcanon: the type with index 0 has no encoding: bpfcanon.Void{}":                    bpfcanon.Void{},
+		"bpfcanon: the type with index 0 has no encoding: &bpfcanon.Ptr{Target:0x0}":          &bpfcanon.Ptr{},
 		"bpfcanon: the type with index 0: Reference: the type ID is over the number of types": bpfcanon.Ptr{Target: 2},
 		"bpfcanon: the type with index 0: NameMissing: a type of this kind needs a name":      bpfcanon.Typedef{},
 	} {

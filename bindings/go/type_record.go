@@ -15,27 +15,30 @@ type btfRecords struct {
 	items   []capi.BTFItem
 	strings []byte
 	offsets map[string]uint32 // of each name in strings
+	refused bool              // a Type has no record
 }
 
-// refused is the record of a Type that no BTF holds: a PTR has no size, so the library refuses it.
-var refused = capi.BTFType{Kind: uint8(KindPtr), Size: 1}
-
-// recordsOf returns the records of types.
-func recordsOf(types []Type) *btfRecords {
+// recordsOf returns the records of types, or an *EncodeBTFError for the first Type that has none.
+func recordsOf(types []Type) (*btfRecords, error) {
 	b := &btfRecords{
 		// About as many items and names as the types of a kernel have.
-		make([]capi.BTFType, len(types)), make([]capi.BTFItem, 0, 2*len(types)),
-		make([]byte, 0, 16*len(types)), make(map[string]uint32, len(types)),
+		types: make([]capi.BTFType, len(types)), items: make([]capi.BTFItem, 0, 2*len(types)),
+		strings: make([]byte, 0, 16*len(types)), offsets: make(map[string]uint32, len(types)),
 	}
 	for i, it := range types {
 		b.types[i] = b.record(it)
+		if b.refused {
+			return nil, &EncodeBTFError{i, it, 0}
+		}
 	}
-	return b
+	return b, nil
 }
 
-// record returns the record of a type.
+// record returns the record of a type. That of Void has no kind, and the library refuses it.
 func (b *btfRecords) record(it Type) capi.BTFType {
 	switch it := it.(type) {
+	case Void:
+		return capi.BTFType{}
 	case Int:
 		r := b.named(it.Name, capi.BTFType{Kind: uint8(KindInt), Size: it.Size})
 		r.Encoding, r.BitOffset, r.Bits = uint8(it.Encoding), it.BitOffset, it.Bits
@@ -62,7 +65,7 @@ func (b *btfRecords) record(it Type) capi.BTFType {
 		return b.named(it.Name, capi.BTFType{Kind: uint8(KindFloat), Size: it.Size})
 	case DeclTag:
 		if it.Component < WholeType || it.Component > math.MaxInt32 {
-			return refused
+			return b.refuse()
 		}
 		r := b.named(it.Name, capi.BTFType{Kind: uint8(KindDeclTag), Flag: flagOf(it.Flag), Target: uint32(it.Target)})
 		r.Component = int32(it.Component)
@@ -73,7 +76,7 @@ func (b *btfRecords) record(it Type) capi.BTFType {
 	return b.withItems(it)
 }
 
-// withItems returns the record of a type of a kind that has items. No other type is left.
+// withItems returns the record of a type of a kind that has items. No other value has a record.
 func (b *btfRecords) withItems(it Type) capi.BTFType {
 	switch it := it.(type) {
 	case Struct:
@@ -93,7 +96,13 @@ func (b *btfRecords) withItems(it Type) capi.BTFType {
 	case Enum64:
 		return addItems(b, it.Name, capi.BTFType{Kind: uint8(KindEnum64), Flag: flagOf(it.Signed), Size: it.Size}, it.Values, b.value64)
 	}
-	return refused
+	return b.refuse()
+}
+
+// refuse returns no record, and notes that there is none.
+func (b *btfRecords) refuse() (none capi.BTFType) {
+	b.refused = true
+	return none
 }
 
 // named returns the record with a name.
@@ -112,7 +121,7 @@ func flagOf(flag bool) uint8 {
 // addItems adds the records of the items of a type, and returns the record of the type with them.
 func addItems[T any](b *btfRecords, name string, r capi.BTFType, items []T, record func(it *T) capi.BTFItem) capi.BTFType {
 	if len(items) > math.MaxUint16 || len(b.items) > math.MaxUint32-math.MaxUint16 {
-		return refused
+		return b.refuse()
 	}
 	r.First, r.Items = uint32(len(b.items)), uint16(len(items))
 	for i := range items {
@@ -166,7 +175,8 @@ func (b *btfRecords) name(name string) (offset, length uint32) {
 		return 0, 0
 	}
 	if uint64(len(b.strings))+uint64(len(name)) >= math.MaxUint32 {
-		return math.MaxUint32, math.MaxUint32 // past the strings, so the library refuses it
+		b.refused = true
+		return 0, 0
 	}
 	offset, ok := b.offsets[name]
 	if !ok {

@@ -62,7 +62,7 @@ def encode_types(types: bytearray, items: bytearray, strings: bytearray, to: Ord
 
 
 def aligned(records: Buffer) -> Any:
-    """Return a pointer to records. A bytearray is aligned to 8 bytes, as records have to be, unless it is empty."""
+    """Return a pointer to records. A bytearray is aligned as records have to be, unless it is empty."""
     return _library.pointer_to(records if records and isinstance(records, bytearray) else bytearray(records or 8))
 
 

@@ -1,7 +1,7 @@
 """Makes records of types and their items, which the library encodes.
 
 The library decides what is valid. Here a value is refused that is of another type than its field, or that no field of a record can
-hold; the library then gets a record that it refuses.
+hold.
 """
 
 from __future__ import annotations
@@ -22,6 +22,7 @@ T = TypeVar("T")
 MOST_ITEMS = 0xFFFF
 # Numbers, since a member of an enum takes longer to find.
 MEMBER, PARAM, ENTRY = int(ItemKind.MEMBER), int(ItemKind.PARAM), int(ItemKind.ENTRY)
+VALUE, VALUE64 = int(ItemKind.ENUM_VALUE), int(ItemKind.ENUM64_VALUE)
 # Where a name is in the strings, and its length in bytes, as both are in records. If the length is 0, the library doesn't read where.
 NAME = struct.Struct("=II")
 NO_NAME = NAME.pack(0, 0)
@@ -41,10 +42,6 @@ def record(
     """Return the record of a type. Raises struct.error for a number that its field can't hold."""
     encoding, bit_offset, bits = integer
     return pack_type(kind, flag, encoding, linkage, bit_offset, bits, items[1], name, size, target, *array, component, items[0])
-
-
-# A PTR has no size.
-REFUSED = record(Kind.PTR, size=1)
 
 
 class Names(dict[str, bytes]):
@@ -69,11 +66,8 @@ class Records:
         self.types, self.items, self.names = bytearray(), bytearray(), Names()
 
     def add(self, it: Type) -> None:
-        """Add the record of a type, or one that the library refuses."""
-        try:
-            self.types += BY_CLASS[type(it)](self, it)
-        except (KeyError, TypeError, ValueError, struct.error):
-            self.types += REFUSED
+        """Add the record of a type. Raises KeyError, TypeError, ValueError, struct.error if it has none."""
+        self.types += BY_CLASS[type(it)](self, it)
 
     def _add(self, records: list[bytes]) -> Range:
         """Add records of items. Raises ValueError."""
@@ -94,12 +88,19 @@ class Records:
         names, found = self.names, all_of(Member, given)
         return self._add([pack_item(names[it.name], it.target, it.bit_offset, it.width, 0, 0, MEMBER, 0) for it in found])
 
-    def values(self, given: Sequence[EnumValue], kind: int, bits: int, is_signed: bool) -> Range:
-        names, found, mask = self.names, all_of(EnumValue, given), (1 << bits) - 1
-        least = -(1 << bits - 1) if is_signed else 0
+    def values(self, given: Sequence[EnumValue], is_signed: bool) -> Range:
+        names, found, mask = self.names, all_of(EnumValue, given), 0xFFFFFFFF
+        least = -(1 << 31) if is_signed else 0
+        # The library refuses a value that isn't one of 32 bits.
+        values = [it.value & mask if 0 <= it.value - least <= mask else 1 << 32 for it in found]
+        return self._add([pack_item(names[it.name], 0, 0, 0, 0, 0, VALUE, value) for it, value in zip(found, values)])
+
+    def values64(self, given: Sequence[EnumValue], is_signed: bool) -> Range:
+        names, found, mask = self.names, all_of(EnumValue, given), (1 << 64) - 1
+        least = -(1 << 63) if is_signed else 0
         if not all(0 <= it.value - least <= mask for it in found):
-            raise ValueError(f"a value doesn't fit into {bits} bits")
-        return self._add([pack_item(names[it.name], 0, 0, 0, 0, 0, kind, it.value & mask) for it in found])
+            raise ValueError("a value doesn't fit into 64 bits")
+        return self._add([pack_item(names[it.name], 0, 0, 0, 0, 0, VALUE64, it.value & mask) for it in found])
 
     def params(self, given: Sequence[Param]) -> Range:
         if isinstance(given, Items) and given._make is param:
@@ -142,10 +143,10 @@ def composite(kind: int) -> Callable[[Records, Any], bytes]:
     return lambda to, it: record(kind, to.names[it.name], it.size, items=to.members(it.members))
 
 
-def enum(kind: int, item: int, bits: int) -> Callable[[Records, Any], bytes]:
+def enum(kind: int, values: Callable[[Records, Sequence[EnumValue], bool], Range]) -> Callable[[Records, Any], bytes]:
     def packed(to: Records, it: Any) -> bytes:
         flag = flag_of(it.signed)
-        return record(kind, to.names[it.name], it.size, items=to.values(it.values, item, bits, it.signed), flag=flag)
+        return record(kind, to.names[it.name], it.size, items=values(to, it.values, it.signed), flag=flag)
 
     return packed
 
@@ -165,12 +166,13 @@ def decl_tag(to: Records, it: btf.DeclTag) -> bytes:
 
 # By the class of a type.
 BY_CLASS: dict[type, Callable[[Records, Any], bytes]] = {
+    btf.Void: lambda to, it: record(0),
     btf.Int: int_,
     btf.Ptr: reference(Kind.PTR),
     btf.Array: lambda to, it: record(Kind.ARRAY, target=it.target, array=(it.index, it.count)),
     btf.Struct: composite(Kind.STRUCT),
     btf.Union: composite(Kind.UNION),
-    btf.Enum: enum(Kind.ENUM, ItemKind.ENUM_VALUE, 32),
+    btf.Enum: enum(Kind.ENUM, Records.values),
     btf.Fwd: lambda to, it: record(Kind.FWD, to.names[it.name], flag=flag_of(it.is_union)),
     btf.Typedef: lambda to, it: record(Kind.TYPEDEF, to.names[it.name], target=it.target),
     btf.Volatile: reference(Kind.VOLATILE),
@@ -183,7 +185,7 @@ BY_CLASS: dict[type, Callable[[Records, Any], bytes]] = {
     btf.Float: lambda to, it: record(Kind.FLOAT, to.names[it.name], it.size),
     btf.DeclTag: decl_tag,
     btf.TypeTag: lambda to, it: record(Kind.TYPE_TAG, to.names[it.name], target=it.target, flag=flag_of(it.flag)),
-    btf.Enum64: enum(Kind.ENUM64, ItemKind.ENUM64_VALUE, 64),
+    btf.Enum64: enum(Kind.ENUM64, Records.values64),
 }
 
 
@@ -192,12 +194,16 @@ def btf_encode(types: Iterable[Type], *, to: Order = Order.LITTLE) -> bytes:
 
     The first type has the ID 1, and types refer to each other by their IDs. Members, values, parameters and entries may be lists or
     tuples. The names, each counted once and with a NUL, are at most 16 MiB long, and the records of the types at most 32 MiB.
-    Raises EncodeBtfError for a value that can't be encoded: the limits are checked first, then the rules of BTF, and then whether BTF
-    can hold the values. OutOfMemoryError, OrderError.
+    Raises EncodeBtfError for a value that can't be encoded. One that has no record of bpfcanon.h comes before all others: of another
+    class, with a field of another type, a number that the field of the record can't hold (but not a value of an Enum), or more than
+    65,535 items. The order of the other faults is that of bpfcanon_btf_encode in bpfcanon.h. OutOfMemoryError, OrderError.
     """
     given, records = list(types), Records()
-    for it in given:
-        records.add(it)
+    for index, it in enumerate(given):
+        try:
+            records.add(it)
+        except (KeyError, TypeError, ValueError, struct.error):
+            raise EncodeBtfError(index, it, None) from None
     answer, out = encode_types(records.types, records.items, records.names.strings, to)
     if answer.status == Status.FAULT and answer.offset < len(given):
         raise EncodeBtfError(answer.offset, given[answer.offset], cause_of(BtfCause, answer.cause) if answer.cause else None)

@@ -51,7 +51,6 @@ WRITTEN: list[tuple[Type, list[int]]] = [
 NO_TYPES: list[Any] = [
     None,
     "int",
-    Void(),
     Ptr,
     Member("a", 0, 0, 0),
     Fwd("a\0", False),
@@ -90,6 +89,7 @@ NO_TYPES: list[Any] = [
 ]
 # Values that the library refuses, with the cause. Type 1 is a struct without members.
 FAULTY: list[tuple[Type, BtfCause]] = [
+    (Void(), BtfCause.KIND_NUMBER),
     (Ptr(9), BtfCause.REFERENCE),
     (Array(1, 0xFFFFFFFF, 1), BtfCause.REFERENCE),
     (Struct("", 8, [Member("", 0, 0, 0), Member("", 9, 0, 0)]), BtfCause.REFERENCE),
@@ -101,6 +101,17 @@ FAULTY: list[tuple[Type, BtfCause]] = [
     (Func("a", Linkage.STATIC, 1), BtfCause.TARGET_KIND),
     (DeclTag("a", False, 1, 1 << 16), BtfCause.COMPONENT),
     (Struct("", 1, [Member("", 1, 1, 0), Member("", 1, 9, 0)]), BtfCause.MEMBER_PLACE),
+]
+# Types of which several are refused, with the index and the cause of the first in the order of bpfcanon.h.
+WIDE = Enum("", False, 4, [EnumValue("a", 1 << 32)])
+FIRST: list[tuple[list[Any], int, Optional[BtfCause]]] = [
+    ([Void(), Ptr(9), Ptr(-1)], 2, None),  # one that has no record comes before all others
+    ([DeclTag("t", False, 2, None), Struct("s", -1, [])], 1, None),
+    ([Func("f", Linkage.STATIC, 2), FuncProto(0, [Param("", 0)] * (1 << 16))], 1, None),
+    ([Ptr(9), WIDE, Void()], 2, BtfCause.KIND_NUMBER),
+    ([WIDE, Ptr(9), Typedef("", 0)], 1, BtfCause.REFERENCE),
+    ([Ptr(0), WIDE, WIDE], 1, None),
+    ([Enum("", False, 3, [EnumValue("a", 1 << 32)])], 0, BtfCause.SIZE),
 ]
 
 
@@ -132,9 +143,8 @@ class Refused(unittest.TestCase):
                 self.refused([Struct("a", 0, [])] * before + [it, Ptr(0)], before, cause)
 
     def test_the_first_is_named(self) -> None:
-        self.refused([Ptr(0), Ptr(9), Typedef("", 0)], 1, BtfCause.REFERENCE)
-        self.refused([Void(), Ptr(9), Ptr(9)], 1, BtfCause.REFERENCE)  # a fault comes before a value that no BTF holds
-        self.refused([Ptr(0), Void(), Void()], 1, None)
+        for types, index, cause in FIRST:
+            self.refused(types, index, cause)
 
     def test_sections_have_a_limit(self) -> None:
         types: list[Any] = [Fwd(chr(97 + it) * ((1 << 20) - 1), False) for it in range(16)]

@@ -1,7 +1,5 @@
 //! The records of `bpfcanon.h`, and the numbers in them.
 
-use crate::sys;
-
 /// Declares an enum by its variants and their numbers in records.
 macro_rules! numbered {
     ($(#[$about:meta])* $name:ident { $($(#[$doc:meta])* $variant:ident = $number:tt,)+ }) => {
@@ -23,11 +21,6 @@ macro_rules! numbered {
     };
 }
 pub(crate) use numbered;
-
-/// A type, aligned as the calls want it: to 8 bytes.
-#[repr(C, align(8))]
-#[derive(Clone, Copy, Default)]
-pub(crate) struct TypeRecord(pub(crate) sys::bpfcanon_btf_type);
 
 #[cfg(test)]
 mod tests {

@@ -152,11 +152,24 @@ fn the_type_that_is_refused_is_named() {
     }
 }
 
+/// Of several types that are refused the first in the order of `bpfcanon.h` is named.
 #[test]
 fn the_first_that_is_refused_is_named() {
-    assert_eq!(refused(&[ptr(0), ptr(9), ptr(8)]), (1, Some(Cause::Reference)));
-    // The records are read before what they refer to.
-    assert_eq!(refused(&[ptr(9), Type::Void, Type::Void]), (1, Some(Cause::KindNumber)));
+    let of_value = |size| {
+        let values = vec![EnumValue { name: "a", value: 1 << 32 }];
+        Type::Enum { name: "", signed: false, size, values }
+    };
+    let wide = || of_value(4);
+    let typedef = || Type::Typedef { name: "", target: TypeId(0) };
+    let func = Type::Func { name: "f", linkage: Linkage::Static, target: TypeId(2) };
+    let many = vec![Param { name: "", target: TypeId(0) }; 1 << 16];
+    let no_record = || Type::FuncProto { target: TypeId(0), params: many.clone() };
+    assert_eq!(refused(&[Type::Void, ptr(9), no_record()]), (2, None));
+    assert_eq!(refused(&[func, no_record()]), (1, None));
+    assert_eq!(refused(&[ptr(9), wide(), Type::Void]), (2, Some(Cause::KindNumber)));
+    assert_eq!(refused(&[wide(), ptr(9), typedef()]), (1, Some(Cause::Reference)));
+    assert_eq!(refused(&[ptr(0), wide(), wide()]), (1, None));
+    assert_eq!(refused(&[of_value(3)]), (0, Some(Cause::Size)));
 }
 
 #[test]

@@ -9,8 +9,7 @@ import (
 )
 
 // The records of bpfcanon.h, with the same fields in the same places. They have no pointers, so that
-// C may write into slices of them. The header requires them to be aligned to 8 bytes, which the
-// first field of each does where no other field does.
+// C may write into slices of them.
 
 // An Insn is a bpfcanon_insn.
 type Insn struct {
@@ -24,7 +23,6 @@ type Insn struct {
 
 // A BTFType is a bpfcanon_btf_type.
 type BTFType struct {
-	_                                                [0]uint64
 	Kind, Flag, Encoding, Linkage, BitOffset, Bits   uint8
 	Items                                            uint16
 	Name, NameLen, Size, Target, IndexType, Elements uint32

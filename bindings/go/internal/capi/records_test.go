@@ -15,8 +15,8 @@ func TestRecordsAreThoseOfTheHeader(t *testing.T) {
 		if !reflect.DeepEqual(ours, header) || len(ours) < 9 {
 			t.Errorf("%v has %v, and the header has %v", layout[0], ours, header)
 		}
-		if layout[0].Size() != layout[1].Size() || layout[0].Align() != 8 {
-			t.Errorf("%v: %d bytes aligned to %d, want %d bytes", layout[0], layout[0].Size(), layout[0].Align(), layout[1].Size())
+		if layout[0].Size() != layout[1].Size() || layout[0].Align() != layout[1].Align() {
+			t.Errorf("%v: %d bytes aligned to %d, want %d to %d", layout[0], layout[0].Size(), layout[0].Align(), layout[1].Size(), layout[1].Align())
 		}
 	}
 }

@@ -1,7 +1,6 @@
 //! From types to BTF.
 
 use super::{Cause, Error, Type, TypeId};
-use crate::records::TypeRecord;
 use crate::sys::*;
 use crate::{call, Order};
 use std::borrow::Borrow;
@@ -52,7 +51,8 @@ impl std::error::Error for EncodeError {}
 /// # Errors
 ///
 /// [`EncodeError::Type`] for a type that exceeds a limit, that has a fault or that no BTF holds; or
-/// out of memory.
+/// out of memory. A type with more than 65,535 items comes before all others. The order of the
+/// other faults is that of `bpfcanon_btf_encode` in `bpfcanon.h`.
 ///
 /// ```
 /// use bpfcanon::btf::{self, Cause, EncodeError, Encoding, Member, Type, TypeId};
@@ -123,7 +123,7 @@ impl From<TryReserveError> for Refused {
 /// What the call reads.
 #[derive(Default)]
 struct Records<'a> {
-    types: Vec<TypeRecord>,
+    types: Vec<bpfcanon_btf_type>,
     items: Vec<bpfcanon_btf_item>,
     /// Each name once, with a NUL after it.
     strings: Vec<u8>,
@@ -140,7 +140,7 @@ impl<'a> Records<'a> {
         let record =
             bpfcanon_btf_type { name, name_len, first: first.try_into()?, items, ..it.record() };
         self.types.try_reserve(1)?;
-        self.types.push(TypeRecord(record));
+        self.types.push(record);
         Ok(())
     }
 
@@ -153,9 +153,10 @@ impl<'a> Records<'a> {
                 self.push_item(it.name, bpfcanon_btf_item { kind, bit_offset: it.bit_offset, width: it.width.into(), ..to(it.target) })
             }),
             Type::Enum { values, signed, .. } => values.iter().try_for_each(|it| {
-                let value = if *signed { i32::try_from(it.value as i64)? as u32 } else { u32::try_from(it.value)? };
+                let value = if *signed { i32::try_from(it.value as i64).map(|it| it as u32) } else { u32::try_from(it.value) };
                 let kind = BPFCANON_BTF_ITEM_KIND_ENUM_VALUE;
-                self.push_item(it.name, bpfcanon_btf_item { kind, value: value.into(), ..Default::default() })
+                // The library refuses a value that isn't one of 32 bits.
+                self.push_item(it.name, bpfcanon_btf_item { kind, value: value.map_or(u64::MAX, u64::from), ..Default::default() })
             }),
             Type::Enum64 { values, .. } => values.iter().try_for_each(|it| {
                 let kind = BPFCANON_BTF_ITEM_KIND_ENUM64_VALUE;
@@ -199,12 +200,12 @@ impl<'a> Records<'a> {
     fn encode(&self, to: Order) -> Result<Vec<u8>, Error> {
         let capacity = 24 + 24 * self.types.len() + 12 * self.items.len() + 1 + self.strings.len();
         call::output(capacity, |out, capacity| {
-            // SAFETY: the records, which are aligned to 8 bytes, the names and the buffer are valid
-            // for the call, and don't overlap.
+            // SAFETY: the records, the names and the buffer are valid for the call, and don't
+            // overlap.
             unsafe {
                 bpfcanon_btf_encode(
                     to as u32,
-                    self.types.as_ptr().cast(),
+                    self.types.as_ptr(),
                     self.types.len(),
                     self.items.as_ptr(),
                     self.items.len(),

@@ -3,7 +3,6 @@
 use super::items::Items;
 use super::{Error, Type, TypeId, MAX};
 use crate::call;
-use crate::records::TypeRecord;
 use crate::sys::{self, bpfcanon_btf_item, bpfcanon_btf_type};
 use std::{fmt, iter, ops};
 
@@ -30,7 +29,7 @@ use std::{fmt, iter, ops};
 pub struct Btf<'a> {
     names: Names<'a>,
     // `decode` has checked that the kind of each is known.
-    types: Vec<TypeRecord>,
+    types: Vec<bpfcanon_btf_type>,
     items: Vec<bpfcanon_btf_item>,
 }
 
@@ -43,7 +42,7 @@ impl<'a> Btf<'a> {
     /// newer and decodes a kind of type that this crate doesn't know.
     pub fn decode(file: &'a [u8]) -> Result<Btf<'a>, Error> {
         let (types, items) = decode_records(file)?;
-        let unknown = types.iter().position(|it| !it.0.is_known());
+        let unknown = types.iter().position(|it| !it.is_known());
         let unknown_item = items.iter().position(|it| !it.is_known());
         match unknown.or(unknown_item) {
             Some(index) => Err(Error::UnknownRecord(index)),
@@ -103,17 +102,17 @@ impl<'a> Btf<'a> {
         let is_named = move |it: &bpfcanon_btf_type| {
             it.name_len as usize == name.len() && self.names.get(it.name, it.name_len) == name
         };
-        let found = self.types.iter().enumerate().filter(move |(_, it)| is_named(&it.0));
+        let found = self.types.iter().enumerate().filter(move |(_, it)| is_named(it));
         found.filter_map(|(index, _)| self.entry(index))
     }
 
     fn record(&self, id: TypeId) -> Option<&bpfcanon_btf_type> {
-        Some(&self.types.get((id.0 as usize).checked_sub(1)?)?.0)
+        self.types.get((id.0 as usize).checked_sub(1)?)
     }
 
     /// The type with this index among the records, and its ID.
     fn entry(&self, index: usize) -> Option<(TypeId, Type<'a>)> {
-        Some((TypeId(index as u32 + 1), self.typed(&self.types.get(index)?.0)?))
+        Some((TypeId(index as u32 + 1), self.typed(self.types.get(index)?)?))
     }
 
     fn typed(&self, record: &bpfcanon_btf_type) -> Option<Type<'a>> {
@@ -124,20 +123,19 @@ impl<'a> Btf<'a> {
 }
 
 /// The records of the types and of all items.
-fn decode_records(file: &[u8]) -> Result<(Vec<TypeRecord>, Vec<bpfcanon_btf_item>), Error> {
-    let mut types: Vec<TypeRecord> = Vec::new();
+fn decode_records(file: &[u8]) -> Result<(Vec<bpfcanon_btf_type>, Vec<bpfcanon_btf_item>), Error> {
+    let mut types: Vec<bpfcanon_btf_type> = Vec::new();
     let mut items: Vec<bpfcanon_btf_item> = Vec::new();
     // Every longer input has a fault.
     let len = file.len().min(MAX);
     types.try_reserve_exact(len / 12).map_err(|_| Error::OutOfMemory)?;
     items.try_reserve_exact(len / 8).map_err(|_| Error::OutOfMemory)?;
-    // SAFETY: the slice and both buffers, which are aligned to 8 bytes, are valid for the call, and
-    // don't overlap.
+    // SAFETY: the slice and both buffers are valid for the call, and don't overlap.
     let answer = unsafe {
         sys::bpfcanon_btf_decode(
             file.as_ptr(),
             file.len(),
-            types.as_mut_ptr().cast(),
+            types.as_mut_ptr(),
             types.capacity(),
             items.as_mut_ptr(),
             items.capacity(),
