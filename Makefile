@@ -132,11 +132,11 @@ tools:
 	$$(apt-cache madison $(PACKAGES) | awk '{print $$1}' | sort -u); } || echo "apt doesn't answer: what needs its tools is skipped"
 
 lint:
-	$(PYTHON) -m compileall -q tests bindings/python packaging
+	$(PYTHON) -m compileall -q tests bindings/python packaging docs
 	for it in $$(git ls-files -s | sed -n 's/^100755.*\t//p'); do case $$(head -1 $$it) in *bash*|*/sh) bash -n $$it || exit 1;; esac; done
 	! command -v gofmt > out/found || test -z "$$(gofmt -l bindings/go examples tests | tee /dev/stderr)"
 	! command -v rustfmt > out/found || rustfmt --edition 2021 --config-path bindings/rust --check $$(git ls-files 'bindings/rust/*.rs' 'examples/*.rs')
-	! command -v mypy > out/found || { MYPYPATH=capi mypy --strict --cache-dir=out/mypy packaging/*.py tools/mutations.py && cd bindings/python && mypy --cache-dir=$(CURDIR)/out/mypy; }
+	! command -v mypy > out/found || { MYPYPATH=capi mypy --strict --cache-dir=out/mypy packaging/*.py tools/mutations.py docs/canon.py && cd bindings/python && mypy --cache-dir=$(CURDIR)/out/mypy; }
 	! command -v codespell > out/found || codespell -q 3 -L crate README.md docs examples
 
 # The files, and parts of files, that tools/ writes of others: all of it after a change of what they read.

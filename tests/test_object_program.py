@@ -15,10 +15,10 @@ import subprocess
 
 import pytest
 
+from docs.canon import Refused, canonical
 from tests import TOP
 from tests.command import SECONDS, Ran
 from tests.needs import need
-from tests.reference import object_reference
 
 CRATE = TOP / "crates" / "bpfcanon_object"
 # The canonical file that the gate gives to the command on standard input.
@@ -433,21 +433,24 @@ def test_no_source_lines(target, run, folder):
     made = compiled("pass", target)
     code = bytearray(made)
     code[made.index(b"\xb7")] = 0xFF
-    folder(plain=bytes(code), canonical=object_reference.canonical(with_fault(target, 0)))
+    folder(plain=bytes(code), canonical=canonical(with_fault(target, 0)))
     messages = b"plain: xdp+0x0: Opcode\ncanonical: xdp+0x0: Opcode\n"
     assert run("check", "plain", "canonical") == Ran(1, b"plain: accepted\ncanonical: accepted\n", messages)
 
 
 @pytest.mark.parametrize("target", TARGETS)
 def test_reference_faults(target, run, folder):
-    """A file with a byte that is changed, or cut, has the first fault that the reference finds."""
+    """A file with a byte that is changed, or cut, has the first fault that docs/canon.py finds."""
     made = compiled("packet_filter", target, "-g")
     changed = [made[:at] + bytes([made[at] ^ 0x55]) + made[at + 1 :] for at in range(0, len(made), 41)]
     names = {str(number): content for number, content in enumerate([*changed, *(made[:at] for at in range(0, len(made), 199))])}
     folder(**names)
     right = []
     for name, content in names.items():
-        fault = object_reference.first_fault(content)
-        right.append((name, fault is None, fault.offset if fault else None))
+        try:
+            canonical(content)
+            right.append((name, True, None))
+        except Refused as refused:
+            right.append((name, False, refused.offset))
     rows = [json.loads(it) for it in run("check", "--format", "json", *names).output.splitlines()]
     assert [(it["file"], it["accepted"], it.get("offset")) for it in rows if "section" not in it] == right

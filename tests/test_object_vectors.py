@@ -1,4 +1,4 @@
-"""Checks testdata/objects by itself, and that the reference and the built command agree with each of its rows."""
+"""Checks testdata/objects by itself, and that docs/canon.py and the built command agree with each of its rows."""
 
 from __future__ import annotations
 
@@ -7,15 +7,16 @@ import hashlib
 import json
 import re
 import subprocess
+import sys
 from pathlib import Path
 
 import pytest
 
-from tests import TOP, object_vectors
+from docs.canon import Refused, Types, canonical
+from tests import TOP, object_vectors, vector_rows
 from tests.command import SECONDS
 from tests.needs import need
 from tests.object_vectors import FOLDER, Fault, Row
-from tests.reference import object_reference
 from tools.objects import make
 
 ROWS = object_vectors.rows()
@@ -62,11 +63,33 @@ def test_made_table() -> None:
 
 
 @each_row
-def test_reference(row: Row) -> None:
+def test_definition(row: Row) -> None:
     try:
-        assert row.key == hashlib.sha256(object_reference.canonical(row.content)).hexdigest()
-    except object_reference.Refused as refused:
-        assert row.fault == Fault(refused.fault.offset, refused.fault.cause)
+        assert row.key == hashlib.sha256(canonical(row.content)).hexdigest()
+    except Refused as refused:
+        assert row.fault == Fault(refused.offset, refused.cause)
+
+
+@pytest.mark.parametrize("field", ["little", "big"])
+@pytest.mark.parametrize("row", vector_rows.rows("btf-fault"), ids=lambda it: it[0])
+def test_definition_of_types(row: list[str], field: str) -> None:
+    """The faults of .BTF by itself, of which the objects have one."""
+    columns = dict(zip(vector_rows.COLUMNS["btf-fault"], row))
+    with pytest.raises(Refused) as refused:
+        Types(vector_rows.data(columns[field]))
+    assert (str(refused.value.offset), refused.value.cause) == (columns["offset"], columns["cause"])
+
+
+def test_command_of_definition(tmp_path: Path) -> None:
+    """docs/canon.py writes a canonical file, or says where a file is refused and why; it writes no file then."""
+    line = [sys.executable, "-B", str(TOP / "docs/canon.py")]
+    accepted = subprocess.run([*line, "-o", tmp_path / "out.o", FOLDER / "pass.little.debug.o"], check=False)
+    assert accepted.returncode == 0
+    assert (tmp_path / "out.o").read_bytes() == canonical((FOLDER / "pass.little.debug.o").read_bytes())
+    (tmp_path / "cut.o").write_bytes(b"\x7fELF")
+    refused = subprocess.run([*line, "cut.o", "-o", "none.o"], capture_output=True, cwd=tmp_path, check=False)
+    assert (refused.returncode, refused.stdout, refused.stderr) == (1, b"", b"cut.o: byte 4: FileCut\n")
+    assert not (tmp_path / "none.o").exists()
 
 
 @functools.lru_cache(maxsize=None)

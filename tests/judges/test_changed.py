@@ -10,6 +10,7 @@ from pathlib import Path
 
 import pytest
 
+from docs.canon import canonical
 from tests import TOP
 from tests.judges import objects
 from tests.judges.conftest import Canon, Keys, Tally
@@ -17,22 +18,12 @@ from tests.judges.loaders import Loader, is_accepted
 from tests.needs import need
 from tests.objects.bases import all_bases
 from tests.objects.changes import Base, Changed, changed
-from tests.reference import object_reference
+from tests.objects.elf_fields import HEADER, SECTION, SYMBOL
 
 COUNT, SEED = int(os.environ.get("CHANGED_OBJECTS", "2000")), os.environ.get("CHANGED_SEED", "1")
 PARTS, BATCH = 2, 200
 FEWEST = COUNT // PARTS // 3  # accepted objects: fewer would test little
 TRIES = 20
-HEADER = {
-    "EI_MAG": 4, "EI_CLASS": 1, "EI_DATA": 1, "EI_VERSION": 1, "EI_OSABI": 1, "EI_ABIVERSION": 1, "EI_PAD": 7, "e_type": 2,
-    "e_machine": 2, "e_version": 4, "e_entry": 8, "e_phoff": 8, "e_shoff": 8, "e_flags": 4, "e_ehsize": 2, "e_phentsize": 2, "e_phnum": 2,
-    "e_shentsize": 2, "e_shnum": 2, "e_shstrndx": 2,
-}  # fmt: skip
-ROW = {
-    "sh_name": 4, "sh_type": 4, "sh_flags": 8, "sh_addr": 8, "sh_offset": 8, "sh_size": 8, "sh_link": 4, "sh_info": 4, "sh_addralign": 8,
-    "sh_entsize": 8,
-}  # fmt: skip
-SYMBOL = {"st_name": 4, "st_info": 1, "st_other": 1, "st_shndx": 2, "st_value": 8, "st_size": 8}
 EXTENSION_HEADER = {
     "magic": 2, "version": 1, "flags": 1, "hdr_len": 4, "func_info_off": 4, "func_info_len": 4, "line_info_off": 4, "line_info_len": 4,
     "core_relo_off": 4, "core_relo_len": 4,
@@ -69,8 +60,8 @@ def word_for(loader: Loader, content: bytes, view: bytes, known: bytes) -> str:
 
 
 def canonical_files(batch: list[Changed], found: list[str], views: Views, keys: Keys) -> dict[str, bytes]:
-    """The new canonical files, which the reference writes: their SHA-256 are the keys, and their own ones."""
-    new = {key: object_reference.canonical(one.content) for one, key in zip(batch, found) if key and key not in views}
+    """The new canonical files, which docs/canon.py writes: their SHA-256 are the keys, and their own ones."""
+    new = {key: canonical(one.content) for one, key in zip(batch, found) if key and key not in views}
     assert [*new] == [hashlib.sha256(it).hexdigest() for it in new.values()] == keys([*new.values()])
     return new
 
@@ -130,7 +121,7 @@ def places_of(data: bytes) -> list[Place]:
         name, size = string_at(data, rows[-1][4] + row[0]), 0 if row[1] == SHT_NOBITS else row[5]
         part = name if name in WRITTEN else "relocations" if row[1] == SHT_REL else "code and data"
         found[row[4] : row[4] + size] = [("content", part)] * size
-        fields_at(found, table + 64 * number, 1, ROW, part)
+        fields_at(found, table + 64 * number, 1, SECTION, part)
         if not size:
             fields_at(found, table + 64 * number + 24, 1, {"sh_offset": 8}, "sections without bytes")
         if part == ".symtab":

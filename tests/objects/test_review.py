@@ -16,6 +16,7 @@ from typing import Any, Iterator
 
 import pytest
 
+from docs import canon
 from tests import TOP, object_vectors
 from tests.judges.test_pairs import PAIRS, edited
 from tests.needs import need
@@ -25,7 +26,6 @@ from tests.objects.changes import Base, changed
 from tests.objects.conftest import Review, Run
 from tests.objects.elf_file import ElfFile
 from tests.objects.known import DIFFERENCES, Edit, Known, added, exchanged, objects_of, section, section_named, symbol
-from tests.reference import object_reference
 
 COMPILED = TOP / "bindings" / "python" / "tests" / "compiled"
 ORDERS = ("little", "big")
@@ -248,7 +248,7 @@ def test_moved_function(review: Review, tmp_path: Path) -> None:
 def test_list(run: Run) -> None:
     """The key is the SHA-256 of the canonical file."""
     done = run("list", "-", input=FLOWS.read_bytes())
-    key = hashlib.sha256(object_reference.canonical(FLOWS.read_bytes())).hexdigest()
+    key = hashlib.sha256(canon.canonical(FLOWS.read_bytes())).hexdigest()
     first, *functions = done.stdout.decode().splitlines()
     assert first == f"{key}  -"
     assert [it.partition("  ")[2] for it in functions] == ["-: .text over", "-: xdp count_flows"]

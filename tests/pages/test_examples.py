@@ -8,9 +8,9 @@ import subprocess
 
 import pytest
 
+from docs.canon import canonical
 from tests import TOP
 from tests.command import SECONDS
-from tests.reference import object_reference
 
 TESTDATA = TOP / "testdata"
 PAGE = (TESTDATA / "README.md").read_text()
@@ -52,7 +52,7 @@ def test_objects(object_program, tmp_path):
     ran = [run(it, tmp_path) for it in examples("bpfcanon-object.1")]
     printed = ["objects/a.o: OK\nobjects/b.o: OK\n", "", "different\n", "program.o: accepted\n"]
     assert [(it.returncode, it.stdout) for it in ran] == list(zip((0, 0, 1, 0), printed))
-    right = object_reference.canonical((tmp_path / "program.o").read_bytes())
+    right = canonical((tmp_path / "program.o").read_bytes())
     assert (tmp_path / "program.canonical.o").read_bytes() == right
 
 

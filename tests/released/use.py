@@ -5,8 +5,9 @@ import re
 import shutil
 import subprocess
 
+from docs.canon import canonical
 from tests import TOP
-from tests.reference import btf_reference, object_reference
+from tests.reference import btf_reference
 
 RECORD = "out/PROVED.txt"
 # What make check builds for a release.
@@ -17,7 +18,7 @@ DATA = TOP / "testdata"
 TYPES = DATA / "flow_table.big.btf"
 CANONICAL = btf_reference.canonical(TYPES.read_bytes())
 OBJECT = DATA / "objects" / "pass.little.debug.o"
-CANONICAL_OBJECT = object_reference.canonical(OBJECT.read_bytes())
+CANONICAL_OBJECT = canonical(OBJECT.read_bytes())
 KEY = re.search(rf"^object\t{OBJECT.name}\t(\w+)", (DATA / "objects" / "objects.tsv").read_text(), re.MULTILINE)[1]
 # The commands with words, and what they print of a file.
 COMMANDS = {

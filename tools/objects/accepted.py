@@ -5,8 +5,8 @@ from __future__ import annotations
 from dataclasses import dataclass
 from typing import Callable
 
+from docs.canon import MAX_SECTION_NAME, SHF_EXECINSTR, SHT_NOBITS
 from tests.objects.elf_file import ElfFile
-from tests.reference.object_elf import MAX_NAME, SHF_EXECINSTR, SHT_NOBITS
 from tools.objects.edited import Edited
 
 
@@ -52,17 +52,17 @@ def nothing_but_symbols(it: Edited) -> None:
 
 def shared_bytes(it: Edited) -> None:
     """Two sections of the same bytes of the file."""
-    row = it.elf.rows[it.section(b".maps")]
-    it.row(b"license", "offset", row.offset)
-    it.row(b"license", "size", row.size)
+    maps = it.section(b".maps")
+    it.row(b"license", "offset", maps.sh_offset)
+    it.row(b"license", "size", maps.sh_size)
 
 
 def odd_names(it: Edited) -> None:
     """A section whose name has the most bytes, and one whose name is no text."""
     names = it.bytes_of(b".strtab")
-    it.replace(b".strtab", names + b"n" * MAX_NAME + b"\0\xff\n\x1b\0")
+    it.replace(b".strtab", names + b"n" * MAX_SECTION_NAME + b"\0\xff\n\x1b\0")
     it.row(b"license", "name", len(names))
-    it.row(b"fentry", "name", len(names) + MAX_NAME + 1)
+    it.row(b"fentry", "name", len(names) + MAX_SECTION_NAME + 1)
 
 
 def no_instructions(it: Edited) -> None:
@@ -84,7 +84,7 @@ def odd_symbols(it: Edited) -> None:
     it.symbol(last, "other", 2)
     it.symbol(last, "info", 0x2D)
     it.symbol(last - 1, "shndx", 0xFFF2)
-    it.symbol(last - 1, "name", it.elf.symbols[last].name)
+    it.symbol(last - 1, "name", it.symbols[last][0])
 
 
 def odd_relocation(it: Edited) -> None:

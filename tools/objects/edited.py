@@ -1,24 +1,13 @@
-"""Sets the fields of an object file one by one, by their names in the ELF standard."""
+"""Sets the fields of an object file one by one, by their names in the System V ABI without the prefix of their row."""
 
 from __future__ import annotations
 
-import re
 import struct
 from typing import Any
 
-from tests.reference import object_elf
-from tests.reference.object_elf import Elf, Header, Relocation, Row, Symbol
-from tests.reference.object_types import Extension, Types
-
-FORMATS: dict[type, str] = {
-    Header: object_elf.HEADER_FORMAT, Row: object_elf.ROW_FORMAT, Symbol: object_elf.SYMBOL_FORMAT, Relocation: object_elf.RELOCATION_FORMAT,
-}  # fmt: skip
-
-
-def field_of(record: Any, field: str) -> tuple[int, int]:
-    """The offset of a field in its record, and its size."""
-    letters, number = re.findall(r"\d*[a-zA-Z]", FORMATS[record]), record._fields.index(field)
-    return struct.calcsize("<" + "".join(letters[:number])), struct.calcsize("<" + letters[number])
+from docs import canon
+from docs.canon import Elf
+from tests.objects.elf_fields import HEADER, RELOCATION, SECTION, SYMBOL
 
 
 class Edited:
@@ -31,22 +20,24 @@ class Edited:
         self.data[offset : offset + size] = value.to_bytes(size, "little" if self.elf.mark == "<" else "big")
         return offset
 
-    def set(self, start: int, record: Any, field: str, value: int) -> int:
-        offset, size = field_of(record, field)
-        return self.put(start + offset, size, value)
+    def set(self, start: int, fields: dict[str, int], field: str, value: int) -> int:
+        """Sets a field of a row that begins at an offset."""
+        before = list(fields)[: list(fields).index(field)]
+        return self.put(start + sum(fields[it] for it in before), fields[field], value)
 
     def header(self, field: str, value: int) -> int:
-        return self.set(0, Header, field, value)
+        return self.set(0, HEADER, f"e_{field}", value)
 
-    def section(self, name: bytes) -> int:
-        return self.elf.section_names.index(name)
+    def section(self, name: bytes) -> Any:
+        return next(it for it in self.elf.sections if it.name == name)
 
     def row(self, name: bytes, field: str, value: int) -> int:
-        return self.set(self.elf.place(self.section(name)), Row, field, value)
+        """Sets a field of the header of a section."""
+        return self.set(self.section(name).place, SECTION, f"sh_{field}", value)
 
     def content(self, name: bytes) -> int:
         """Where the content of a section is."""
-        return self.elf.rows[self.section(name)].offset
+        return int(self.section(name).sh_offset)
 
     def replace(self, name: bytes, content: bytes) -> None:
         """Gives a section another content, at the end of the file."""
@@ -55,26 +46,30 @@ class Edited:
         self.data += content
         self.elf = Elf(bytes(self.data))
 
+    @property
+    def symbols(self) -> list[tuple[int, ...]]:
+        return list(struct.iter_unpack(self.elf.mark + canon.SYMBOL, self.bytes_of(b".symtab")))
+
     def symbol(self, number: int, field: str, value: int) -> int:
-        return self.set(self.content(b".symtab") + object_elf.SYMBOL_SIZE * number, Symbol, field, value)
+        return self.set(self.content(b".symtab") + sum(SYMBOL.values()) * number, SYMBOL, f"st_{field}", value)
 
     @property
     def last_symbol(self) -> int:
         """The number of a symbol that is global, and in a section of data."""
-        return len(self.elf.symbols) - 1
+        return len(self.symbols) - 1
 
     def relocation(self, table: bytes, field: str, value: int) -> int:
         """Sets a field of the first relocation of a table."""
-        return self.set(self.content(table), Relocation, field, value)
+        return self.set(self.content(table), RELOCATION, f"r_{field}", value)
 
     def bytes_of(self, name: bytes) -> bytes:
         return self.elf.content(self.section(name))
 
     def first_type(self, kind: str) -> tuple[int, list[int]]:
         """Where the first type of a kind is, and its words."""
-        types = Types(self.elf, self.section(b".BTF"))
-        record = next(it for it in types.records if it.layout.word == kind)
-        return types.place + record.pos, record.words
+        types = canon.Types(self.bytes_of(b".BTF"))
+        record = next(it for it in types.records if it.kind == kind)
+        return self.content(b".BTF") + record.place, record.words
 
     def add_type_string(self, string: bytes) -> int:
         """The offset of a string that is added to those of .BTF."""
@@ -87,4 +82,4 @@ class Edited:
 
     def group(self, part: int) -> int:
         """Where the first group of functions, lines or CO-RE relocations is: parts 0, 1 and 2 of .BTF.ext."""
-        return Extension(self.elf, self.section(b".BTF.ext")).groups(self.elf)[part][0].place
+        return int(canon.read_extension(self.elf, canon.read_types(self.elf))[part][0].place)

@@ -2,7 +2,7 @@
 
     python3 -m tools.objects.make
 
-Keys are those of the canonical files that the reference writes, and faults those that refused.py names.
+Keys are those of the canonical files that docs/canon.py writes, and faults those that refused.py names.
 """
 
 from __future__ import annotations
@@ -13,8 +13,8 @@ import tempfile
 from pathlib import Path
 from typing import Iterator, NamedTuple, Optional
 
+from docs.canon import canonical
 from tests import TOP
-from tests.reference import object_reference
 from tools.objects.accepted import ACCEPTED
 from tools.objects.edited import Edited
 from tools.objects.refused import REFUSED
@@ -69,7 +69,7 @@ def compiled(source: str, order: str, build: str) -> bytes:
 
 
 def accepted(name: str, content: bytes) -> Vector:
-    key = hashlib.sha256(object_reference.canonical(content)).hexdigest()
+    key = hashlib.sha256(canonical(content)).hexdigest()
     return Vector(name, content, ("object", name, key))
 
 
@@ -86,13 +86,13 @@ def vectors() -> Iterator[Vector]:
                 content = compiled(source, order, build)
                 yield accepted(f"{Path(source).stem}.{order}.{build}.o", content)
                 if build == TYPED:
-                    bases[Path(source).stem, order] = object_reference.canonical(content)
+                    bases[Path(source).stem, order] = canonical(content)
     for number, (name, change) in enumerate(ACCEPTED.items()):
         order = list(ORDERS)[number % 2]
         file = Edited(bases["core", order])
         change.change(file)
         vector = accepted(f"changed.{name}.{order}.o", bytes(file.data))
-        assert change.is_same == (object_reference.canonical(vector.content) == bases["core", order]), vector.name
+        assert change.is_same == (canonical(vector.content) == bases["core", order]), vector.name
         yield vector
     for number, (name, rule) in enumerate(REFUSED.items()):
         order = list(ORDERS)[number % 2]
