@@ -29,6 +29,7 @@ FILES = {
 OF_THE_COMMANDS = [*FILES]
 FILES |= {
     "share/doc/bpfcanon/LICENSE": TOP / "packaging" / "NO-LICENSE",
+    "share/doc/bpfcanon/docs/canon.py": TOP / "docs" / "canon.py",
     "share/doc/bpfcanon/recipes/count.c": TOP / "recipes" / "count.c",
 }
 # The pages for users, and the programs that they compile.
