@@ -603,6 +603,7 @@ static const struct meaning object_causes[] = {
 	{ "ExtensionLines", "functions and source lines of .BTF.ext don't match" },
 	{ "ResultTooLarge",
 	  "the canonical file has more than 64 MiB, or its .BTF more than 15 MiB" },
+	{ "SectionsTooLarge", "the sections that are kept are together longer than the file" },
 };
 
 static const struct meaning no_meaning = { NULL, NULL };

@@ -135,6 +135,7 @@ const (
 	ErrObjectExtensionString                                // a string of .BTF.ext isn't inside the strings of .BTF, or is too long for the name of a section
 	ErrObjectExtensionLines                                 // functions and source lines of .BTF.ext don't match
 	ErrObjectResultTooLarge                                 // the canonical file has more than 64 MiB, or its .BTF more than 15 MiB
+	ErrObjectSectionsTooLarge                               // the sections that are kept are together longer than the file
 )
 
 // String returns the name of the cause, for example "Opcode", or "InsnCause(999)" for a number

@@ -158,6 +158,7 @@ class ObjectCause(KnownCause):
     EXTENSION_STRING = 150
     EXTENSION_LINES = 151
     RESULT_TOO_LARGE = 152
+    SECTIONS_TOO_LARGE = 153
 
 
 class Form(enum.IntEnum):

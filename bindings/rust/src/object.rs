@@ -147,6 +147,8 @@ call::causes! {
     ExtensionLines = BPFCANON_OBJECT_CAUSE_EXTENSION_LINES,
     /// The canonical file has more than 64 MiB, or its `.BTF` more than 15 MiB.
     ResultTooLarge = BPFCANON_OBJECT_CAUSE_RESULT_TOO_LARGE,
+    /// The sections that are kept are together longer than the file.
+    SectionsTooLarge = BPFCANON_OBJECT_CAUSE_SECTIONS_TOO_LARGE,
     ;
     /// `.BTF` has this fault by itself.
     Types(btf::Cause) below BPFCANON_OBJECT_CAUSE_FILE_TOO_LARGE

@@ -4,7 +4,7 @@ use Rattle.bpf_elf.specs.declared.{header.Header.Header, symbols.SymbolTable.Sym
 use Rattle.bpf_elf.specs.Header.{FILE_LIMIT}
 use Rattle.bpf_elf.specs.Numbers.{order_of, table, count, names, name_off, offset, size, link}
 use Rattle.bpf_elf.specs.Names.{is_section_name}
-use Rattle.bpf_elf.specs.Sections.{content, is_inside, is_string_table}
+use Rattle.bpf_elf.specs.Sections.{content, is_inside, is_string_table, kept_total}
 use Rattle.bpf_elf.specs.Symbols.{symbols, symbol_count, symbol_strings, st_name, st_shndx, is_special}
 
 -- the header of a file, whose section header table is inside it
@@ -32,6 +32,11 @@ pub record IsKnown (b : List ℕ) (i : ℕ) : Type 0 where
 -- so are the first n
 abbrev pub AreKnown : List ℕ → ℕ → Type 0
 AreKnown b n = (i : ℕ) → i < n → IsKnown b i
+
+-- the first n have this many bytes that are kept, which aren't more than the file has
+pub record IsTotal (b : List ℕ) (n : ℕ) (total : ℕ) : Type 0 where
+  pub value : total ≡ kept_total b n
+  pub small : total ≤ length b
 
 -- all sections have been checked
 pub record HasSections (b : List ℕ) (h : Header) : Type 0 where

@@ -1,5 +1,5 @@
 -- The sections of a file: their names, bytes and kinds, and the rules on them (System V ABI, "Sections").
-use Rattle.std.specs.Prelude.{ℕ, ◌+◌, ◌==◌, ◌||◌, ◌&&◌, not, nat_lt, nat_le, is_some, Bool, false, List, [], ◌∷◌, Option, Some, None, length, take, drop, if◌then◌else◌, codes}
+use Rattle.std.specs.Prelude.{ℕ, zero, suc, ◌+◌, ◌==◌, ◌||◌, ◌&&◌, not, nat_lt, nat_le, is_some, Bool, false, List, [], ◌∷◌, Option, Some, None, length, take, drop, if◌then◌else◌, codes}
 use Rattle.std.specs.{List.list_all, Str.bytes_eq}
 use Rattle.bpf_elf.specs.declared.kinds.Kind.{Kind}
 use Rattle.bpf_elf.specs.declared.kinds.Kind.TheVariants.{Data, Relocations}
@@ -41,6 +41,15 @@ section_of b k n = first_of n (λ i. is_kind k (kind b i))
 abbrev pub is_again : List ℕ → ℕ → Bool
 is_again b i = elim (kind b i) [ Some k ↦ nat_lt 0 (section_of b k i) | None ↦ false ]
 
+-- the bytes that the canonical file has of a section: all of code and data, and of a table of relocations that is kept
+abbrev pub kept_size : List ℕ → ℕ → ℕ
+kept_size b i = if is_kind Data (kind b i) || is_kind Relocations (kind b i) then file_size b i else 0
+
+-- those of the first n sections together
+abbrev pub kept_total : List ℕ → ℕ → ℕ
+kept_total b zero = 0
+kept_total b (suc n) = kept_total b n + kept_size b n
+
 -- bytes of the file are zero
 abbrev pub is_zero_at : List ℕ → ℕ → ℕ → Bool
 is_zero_at b pos n = list_all (λ c. c == 0) (take n (drop pos b))
@@ -52,13 +61,14 @@ table_rules b =
     ∷ rule cause.NamesTable 62 (is_string_table b (names b))
     ∷ []
 
--- a section is in the file, and has a name and a kind
+-- a section is in the file, and has a name and a kind; those that are kept, up to this one, are together no longer than the file
 abbrev pub section_rules : List ℕ → ℕ → List ElfRule
 section_rules b i =
     rule cause.SectionCut (header_offset b i + 24) (is_inside b i)
     ∷ rule cause.SectionName (header_offset b i) (is_section_name (content b (names b)) (name_off b i))
     ∷ rule cause.SectionKind (header_offset b i + 4) (i == 0 || is_some (kind b i))
     ∷ rule cause.SectionTwice (header_offset b i + 4) (not (is_single (kind b i) && is_again b i))
+    ∷ rule cause.SectionsTooLarge (header_offset b i) (nat_le (kept_total b (suc i)) (length b))
     ∷ []
 
 -- the name of a table of relocations is .rel and that of its section

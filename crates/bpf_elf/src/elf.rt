@@ -98,6 +98,7 @@ impl<'a> Elf<'a> {
     /// The bytes of the file.
     pub fn bytes(&self) -> &[u8]
         ensures value { result.now ≡ self.now }
+        ensures short { length result.now ≤ FILE_LIMIT }
         ensures rules { IsElf self.now }
     {
         self.bytes

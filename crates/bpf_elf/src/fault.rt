@@ -110,6 +110,9 @@ pub enum ElfCause {
     /// Reported at r_info. A symbol in SHN_UNDEF, SHN_ABS or SHN_COMMON is accepted.
     #[error("the relocation names no symbol, a source file, or a symbol in a section that isn't code or data")]
     RelocationSymbol,
+    /// Reported at the header of the first section up to which they are longer.
+    #[error("the sections that are kept are together longer than the file")]
+    SectionsTooLarge = 53,
 }
 
 /// The first rule that a file breaks, and where.

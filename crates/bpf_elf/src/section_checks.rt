@@ -4,13 +4,15 @@ ghost use Rattle.std.specs.Prelude.{◌≡◌, ◌+◌, ◌<◌, ◌≤◌, leng
 ghost use Rattle.bpf_elf.specs.Rules.{each, AllHold, IsFirstFault, Checks};
 ghost use Rattle.bpf_elf.specs.Numbers.{count};
 ghost use Rattle.bpf_elf.specs.Sections as spec;
-ghost use Rattle.bpf_elf.specs.Headers.{IsHeaderOf, HasNames, IsKnown, AreKnown};
+ghost use Rattle.bpf_elf.specs.Headers.{IsHeaderOf, HasNames, IsKnown, AreKnown, IsTotal};
 
 use crate::fault::{ElfCause, ElfFault, require};
 use crate::header::Header;
 use crate::kinds::{Kind, SHT_REL, is_kind, is_single};
 use crate::names::is_section_name;
-use crate::sections::{is_inside, is_string_table, kind, name, names_content, section_header};
+use crate::sections::{
+    is_inside, is_string_table, kept_size, kind, name, names_content, section_header,
+};
 
 /// Whether n bytes from an offset on are 0.
 pub(crate) fn is_zero_at(bytes: &[u8], pos: usize, n: usize) -> bool
@@ -62,13 +64,16 @@ fn is_again(bytes: &[u8], header: Header, kind: Option<Kind>, i: usize) -> bool
     }
 }
 
-/// Checks one section.
-fn check_section(bytes: &[u8], header: Header, i: usize) -> Result<(), ElfFault>
+/// Checks one section, and returns how many bytes are kept of all sections up to it. `total` bytes
+/// are kept of those before it.
+fn check_section(bytes: &[u8], header: Header, i: usize, total: usize) -> Result<usize, ElfFault>
     requires header { HasNames bytes.now header }
     requires there { i < count bytes.now }
     requires known { AreKnown bytes.now i }
+    requires total { IsTotal bytes.now i total }
     ensures { MatchResult result
-        (λ _. AllHold (spec.section_rules bytes.now i) × IsKnown bytes.now i)
+        (λ total. AllHold (spec.section_rules bytes.now i) × IsKnown bytes.now i
+        × IsTotal bytes.now (i + 1) total)
         (IsFirstFault (spec.section_rules bytes.now i)) }
 {
     let pos = header.table + 64 * i;
@@ -79,7 +84,10 @@ fn check_section(bytes: &[u8], header: Header, i: usize) -> Result<(), ElfFault>
     let kind = kind(bytes, header, i);
     require(i == 0 || kind.is_some(), pos + 4, ElfCause::SectionKind)?;
     let is_twice = is_single(kind) && is_again(bytes, header, kind, i);
-    require(!is_twice, pos + 4, ElfCause::SectionTwice)
+    require(!is_twice, pos + 4, ElfCause::SectionTwice)?;
+    let total = total + kept_size(bytes, header, kind, i);
+    require(total <= bytes.len(), pos, ElfCause::SectionsTooLarge)?;
+    Ok(total)
 }
 
 /// Checks all sections.
@@ -90,8 +98,9 @@ pub(crate) fn check_sections(bytes: &[u8], header: Header) -> Result<(), ElfFaul
         × AreKnown bytes.now (count bytes.now))
         (IsFirstFault (each (count bytes.now) (spec.section_rules bytes.now))) }
 {
+    let mut total = 0;
     for i in 0..header.count {
-        check_section(bytes, header, i)?;
+        total = check_section(bytes, header, i, total)?;
     }
     Ok(())
 }

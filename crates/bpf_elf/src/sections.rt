@@ -1,7 +1,7 @@
 //! The section header table (System V ABI, "Sections"): the fields, bytes, names and kinds of
 //! sections.
 
-ghost use Rattle.std.specs.Prelude.{◌≡◌, ◌<◌, true};
+ghost use Rattle.std.specs.Prelude.{◌≡◌, ◌<◌, ◌≤◌, true, length};
 ghost use Rattle.bpf_elf.specs.Numbers.{count, name_off, names};
 ghost use Rattle.bpf_elf.specs.Names.{is_closed, is_section_name};
 ghost use Rattle.bpf_elf.specs.Sections as spec;
@@ -84,6 +84,22 @@ pub(crate) fn is_inside(bytes: &[u8], header: Header, i: usize) -> bool
     let len = bytes.len() as u64;
     let offset = section_header(bytes, header, i).offset;
     offset <= len && file_size(bytes, header, i) <= len - offset
+}
+
+/// The number of bytes that the canonical file has of a section of this kind.
+pub(crate) fn kept_size(bytes: &[u8], header: Header, kind: Option<Kind>, i: usize) -> usize
+    requires header { IsHeaderOf bytes.now header }
+    requires there { i < count bytes.now }
+    requires inside { spec.is_inside bytes.now i ≡ true }
+    requires kind { kind ≡ spec.kind bytes.now i }
+    ensures value { result ≡ spec.kept_size bytes.now i }
+    ensures small { result ≤ length bytes.now }
+{
+    if is_kind(Kind::Data, kind) || is_kind(Kind::Relocations, kind) {
+        file_size(bytes, header, i) as usize
+    } else {
+        0
+    }
 }
 
 /// The bytes of a section.

@@ -1,4 +1,4 @@
--- The numbers of the causes of faults of object files, in the sequence of the rules: those of the ELF file, then the others. A fault of
+-- The numbers of the causes of faults of object files: those of the ELF file, then the others. A fault of
 -- .BTF by itself has the number of its cause there, which is smaller than these.
 use Rattle.std.specs.Prelude.{ℕ}
 use Rattle.bpf_elf.specs.declared.fault.ElfCause.TheVariants as elf
@@ -42,6 +42,7 @@ object_cause_number (cause.Elf elf.RelocationTableSize) = 131
 object_cause_number (cause.Elf elf.RelocationEntrySize) = 132
 object_cause_number (cause.Elf elf.RelocationSymbols) = 133
 object_cause_number (cause.Elf elf.RelocationSymbol) = 134
+object_cause_number (cause.Elf elf.SectionsTooLarge) = 153
 object_cause_number cause.TypesTooLarge = 135
 object_cause_number cause.TypesOrder = 136
 object_cause_number cause.TypesLayout = 137

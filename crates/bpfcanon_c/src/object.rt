@@ -11,8 +11,8 @@ use crate::answer::{Answer, Ending, FaultCode, compared, put, report};
 use bpf_object::{ObjectCause, ObjectError, ObjectFault, canon_object, object_key, same_objects};
 use std::alloc::Global;
 
-/// The number of a cause. Those of the ELF file begin at 101, and the others follow them; a fault of
-/// .BTF by itself has the number that it has there.
+/// The number of a cause. Those of the ELF file have 100 more than there, and a fault of .BTF by itself
+/// has the number that it has there.
 fn cause_number(cause: ObjectCause) -> u32
     ensures { result ≡ object_cause_number cause }
 {
