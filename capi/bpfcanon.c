@@ -602,7 +602,8 @@ static const struct meaning object_causes[] = {
 	  "name of a section" },
 	{ "ExtensionLines", "functions and source lines of .BTF.ext don't match" },
 	{ "ResultTooLarge",
-	  "the canonical file has more than 64 MiB, or its .BTF more than 15 MiB" },
+	  "the canonical file has more than 64 MiB, or more than four times the file and "
+	  "64 KiB, or its .BTF more than 15 MiB" },
 	{ "SectionsTooLarge", "the sections that are kept are together longer than the file" },
 };
 

@@ -134,7 +134,7 @@ const (
 	ErrObjectExtensionGroup                                 // a group of records extends past the end of its part, or is empty
 	ErrObjectExtensionString                                // a string of .BTF.ext isn't inside the strings of .BTF, or is too long for the name of a section
 	ErrObjectExtensionLines                                 // functions and source lines of .BTF.ext don't match
-	ErrObjectResultTooLarge                                 // the canonical file has more than 64 MiB, or its .BTF more than 15 MiB
+	ErrObjectResultTooLarge                                 // the canonical file has more than 64 MiB, or more than four times the file and 64 KiB, or its .BTF more than 15 MiB
 	ErrObjectSectionsTooLarge                               // the sections that are kept are together longer than the file
 )
 

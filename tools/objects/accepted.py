@@ -57,6 +57,12 @@ def shared_bytes(it: Edited) -> None:
     it.row(b"license", "size", maps.sh_size)
 
 
+def as_long_as_the_file(it: Edited) -> None:
+    """The last kept section shares bytes with others: together they are as long as the file."""
+    it.row(b"license", "offset", it.content(b".text"))
+    it.row(b"license", "size", it.room(b"license"))
+
+
 def odd_names(it: Edited) -> None:
     """A section whose name has the most bytes, and one whose name is no text."""
     names = it.bytes_of(b".strtab")
@@ -133,4 +139,5 @@ ACCEPTED = {
     "file_flags": Accepted(lambda it: it.header("flags", 1)),
     "alignment": Accepted(lambda it: it.row(b"raw_tp", "addralign", 3)),
     "address": Accepted(lambda it: it.row(b"raw_tp", "addr", 8)),
+    "as_long_as_the_file": Accepted(as_long_as_the_file),
 }

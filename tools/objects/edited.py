@@ -6,7 +6,7 @@ import struct
 from typing import Any
 
 from docs import canon
-from docs.canon import Elf
+from docs.canon import Elf, Kind
 from tests.objects.elf_fields import HEADER, RELOCATION, SECTION, SYMBOL
 
 
@@ -64,6 +64,11 @@ class Edited:
 
     def bytes_of(self, name: bytes) -> bytes:
         return self.elf.content(self.section(name))
+
+    def room(self, name: bytes) -> int:
+        """The size of a section with which the kept ones are together as long as the file."""
+        kept = [it for it in self.elf.sections if it.kind in (Kind.DATA, Kind.RELOCATIONS) and it.name != name]
+        return len(self.data) - sum(len(self.elf.content(it)) for it in kept)
 
     def first_type(self, kind: str) -> tuple[int, list[int]]:
         """Where the first type of a kind is, and its words."""

@@ -8,12 +8,12 @@ from __future__ import annotations
 import struct
 from typing import Callable, NamedTuple, Optional
 
-from docs.canon import MAX_FILE, MAX_SECTION_NAME, MAX_TYPES, SHF_COMPRESSED, SHT_PROGBITS, SHT_STRTAB, STB_LOCAL
+from docs.canon import MAX_FILE, MAX_SECTION_NAME, MAX_TYPES, SHF_COMPRESSED, SHN_UNDEF, SHT_PROGBITS, SHT_STRTAB, STB_LOCAL, SYMBOL
 from tools.objects.edited import Edited
 
 Change = Callable[[Edited], int]
 
-HALF = MAX_FILE // 2 + 1
+GLOBAL = 1 << 4
 XDP, RELOCATIONS, TYPES, EXTENSION = b"xdp", b".relraw_tp", b".BTF", b".BTF.ext"
 
 
@@ -152,12 +152,28 @@ def lines_elsewhere(it: Edited) -> int:
     return it.group(0)
 
 
-def result_too_large(it: Edited) -> int:
-    """Two sections of the same bytes, which the canonical file would have twice."""
-    for name in b"license", b".maps":
-        it.row(name, "offset", 0)
-        it.row(name, "size", HALF)
+def many_names(it: Edited) -> int:
+    """100 symbols named by the ends of one string, which the canonical file would have one by one."""
+    names = it.bytes_of(b".strtab")
+    it.replace(b".strtab", names + b"n" * 1_200 + b"\0")
+    symbols = [(len(names) + number, GLOBAL, 0, SHN_UNDEF, 0, 0) for number in range(100)]
+    rows = b"".join(struct.pack(it.elf.mark + SYMBOL, *symbol) for symbol in symbols)
+    it.replace(b".symtab", it.bytes_of(b".symtab") + rows)
     return 0
+
+
+def largest_sections(it: Edited) -> int:
+    """The kept sections are together as long as the largest file, so the canonical file would be longer."""
+    it.row(b"license", "offset", 0)
+    it.row(b"license", "size", MAX_FILE - len(it.data) + it.room(b"license"))
+    return 0
+
+
+def sections_too_large(it: Edited) -> int:
+    """The last kept section shares bytes with others: together they are one byte longer than the file."""
+    it.row(b"license", "offset", 0)
+    it.row(b"license", "size", it.room(b"license") + 1)
+    return int(it.section(b"license").place)
 
 
 class Refused(NamedTuple):
@@ -235,5 +251,7 @@ REFUSED = {
     "ExtensionString.access": Refused("ExtensionString", lambda it: it.put(it.group(2) + 16, 4, 0x10000)),
     "ExtensionLines": Refused("ExtensionLines", function_without_line, "pass"),
     "ExtensionLines.sections": Refused("ExtensionLines", lines_elsewhere),
-    "ResultTooLarge": Refused("ResultTooLarge", result_too_large, length=HALF),
+    "ResultTooLarge": Refused("ResultTooLarge", many_names, "pass"),
+    "ResultTooLarge.padded": Refused("ResultTooLarge", largest_sections, length=MAX_FILE),
+    "SectionsTooLarge": Refused("SectionsTooLarge", sections_too_large),
 }

@@ -145,7 +145,8 @@ call::causes! {
     ExtensionString = BPFCANON_OBJECT_CAUSE_EXTENSION_STRING,
     /// Functions and source lines of `.BTF.ext` don't match.
     ExtensionLines = BPFCANON_OBJECT_CAUSE_EXTENSION_LINES,
-    /// The canonical file has more than 64 MiB, or its `.BTF` more than 15 MiB.
+    /// The canonical file has more than 64 MiB, or more than four times the file and 64 KiB, or its
+    /// `.BTF` more than 15 MiB.
     ResultTooLarge = BPFCANON_OBJECT_CAUSE_RESULT_TOO_LARGE,
     /// The sections that are kept are together longer than the file.
     SectionsTooLarge = BPFCANON_OBJECT_CAUSE_SECTIONS_TOO_LARGE,

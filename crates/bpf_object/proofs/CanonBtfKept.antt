@@ -1,10 +1,9 @@
 -- The .BTF of a canonical file is accepted, and holds the types of its object.
-use Rattle.std.proofs.Common.{◌≡◌, ℕ, zero, suc, ◌<◌, ◌≤◌, ◌==◌, ◌&&◌, Bool, true, List, [], ◌∷◌, ◌++◌, Option, Some, None, length, get_or, map, if◌then◌else◌, refl, sym, ap, subst, ◌∙◌, lit<, append_assoc, length-append, arith}
-use Rattle.std.specs.{Prelude.nat_le, List.flat_map}
-use Rattle.std.proofs.lemmas.Bool.{and_parts, leb-true}
+use Rattle.std.proofs.Common.{◌≡◌, ℕ, zero, suc, ◌<◌, ◌≤◌, ◌==◌, Bool, true, List, [], ◌∷◌, ◌++◌, Option, Some, None, length, get_or, map, refl, sym, ap, subst, ◌∙◌, lit<, append_assoc, length-append, arith}
+use Rattle.std.specs.{List.flat_map}
+use Rattle.std.proofs.lemmas.Bool.{leb-true}
 use Rattle.std.proofs.lemmas.List.{get_or-map, length-map}
 use Rattle.bpf_words.specs.{declared.Order.Order, declared.Order.TheVariants.Little, declared.Order.TheVariants.Big, Words.word32_at}
-use Rattle.bpf_elf.specs.Header.{FILE_LIMIT}
 use Rattle.bpf_elf.specs.Rules.{AllHold, each}
 use Rattle.bpf_elf.proofs.RuleLemmas.{both_hold}
 use Rattle.btf_raw.specs.Header.{header, TYPES_LIMIT, STRINGS_LIMIT}
@@ -14,8 +13,8 @@ use Rattle.btf_types.specs.{Values.TypeRecord, Denotes.HoldsSections, Valid.IsVa
 use Rattle.btf_types.proofs.{Lists.zip_at, Members.Has}
 use Rattle.bpf_canon.specs.btf.CanonicalBtf.{record_words}
 use Rattle.bpf_object.specs.Objects.{ObjectTypes, Object}
-use Rattle.bpf_object.specs.Canonical.{strings_of, offset_of, types_strings, extension_strings, types_bytes, btf_of, btf_bytes, extension_bytes, has_extension, canonical}
-use Rattle.bpf_object.specs.Denotes.{types_of, types_fit}
+use Rattle.bpf_object.specs.Canonical.{strings_of, offset_of, types_strings, extension_strings, types_bytes, btf_of, btf_bytes, canonical}
+use Rattle.bpf_object.specs.Denotes.{types_of, btf_fits, types_fit}
 use Rattle.bpf_object.specs.{Types.TypesSection, Types.is_order, Types.form_rules, Types.record_rules, Types.records_start, Types.record_offset, Types.rules_of, TypesFaults.KeepsTypes}
 use Rattle.bpf_object.proofs.{ReadBackKinds.all_hold, ReadBackTests.equal_test, ReadBackTests.most_test}
 use Rattle.bpf_object.proofs.CanonValid.{ValidObject, IsSmall}
@@ -97,40 +96,23 @@ module _ (o : Order) (xs : List (List ℕ)) (v : List TypeRecord) (valid : IsVal
 -- ---- the canonical file
 
 -- what types_fit says
-pub record AreSmallTypes (o : Order) (t : ObjectTypes) : Type 0 where
-  pub types : length (btf_bytes o t) ≤ 15728640
-  pub extension : has_extension t ≡ true → length (extension_bytes o (offset_of (types_strings t)) t) ≤ FILE_LIMIT
-
 abbrev fits : Order → Option ObjectTypes → Bool
 fits o None = true
-fits o (Some t) =
-    nat_le (length (btf_bytes o t)) 15728640
-    && (if has_extension t then nat_le (length (extension_bytes o (offset_of (types_strings t)) t)) FILE_LIMIT else true)
+fits o (Some t) = btf_fits o t
 
-pub small_types : (x : Object) (t : ObjectTypes) → x.types ≡ Some t → types_fit x ≡ true → AreSmallTypes x.order t
-small_types x t is fit =
-    let both : (nat_le (length (btf_bytes x.order t)) 15728640
-    && (if has_extension t then nat_le (length (extension_bytes x.order (offset_of (types_strings t)) t)) FILE_LIMIT else true)) ≡ true =
-    subst (λ (q : Option ObjectTypes). fits x.order q ≡ true) is fit in
-    let parts = and_parts (nat_le (length (btf_bytes x.order t)) 15728640) _ both in
-    record {
-      types = leb-true _ _ parts.0;
-      extension = λ has.
-          leb-true _ _
-          (subst (λ (y : Bool). (if y then nat_le (length (extension_bytes x.order (offset_of (types_strings t)) t)) FILE_LIMIT else true) ≡ true) has parts.1);
-    }
+pub small_types : (x : Object) (t : ObjectTypes) → x.types ≡ Some t → types_fit x ≡ true → length (btf_bytes x.order t) ≤ 15728640
+small_types x t is fit = leb-true _ _ (subst (λ (q : Option ObjectTypes). fits x.order q ≡ true) is fit)
 
 -- the words of its .BTF
 abbrev pub canonical_words : Order → ObjectTypes → SectionWords
 canonical_words o t = words_of o (types_strings t) t.records
 
-module _ (x : Object) (valid : ValidObject x) (small : IsSmall x) (t : ObjectTypes) (is : x.types ≡ Some t) (fit : AreSmallTypes x.order t) (records : IsValid t.records) where
+module _ (x : Object) (valid : ValidObject x) (small : IsSmall x) (t : ObjectTypes) (is : x.types ≡ Some t) (few : length (btf_bytes x.order t) ≤ 15728640) (records : IsValid t.records) where
   pub names_there : (name : List ℕ) → Has (names t.records) name → Has (types_strings t) name
   names_there name h = has_left (names t.records) (extension_strings t) name h
 
   pub strings_short : length (strings_of (types_strings t)) ≤ STRINGS_LIMIT
   strings_short =
-      let few = fit.types in
       omega (arith, few, strings_length x.order (types_bytes x.order (offset_of (types_strings t)) t.records) (strings_of (types_strings t)))
 
   pub canonical_records : map (record_of (strings_of (types_strings t))) (canonical_words x.order t).frames ≡ t.records
@@ -139,6 +121,5 @@ module _ (x : Object) (valid : ValidObject x) (small : IsSmall x) (t : ObjectTyp
   pub canonical_types_kept : AreFree t.records → KeepsTypes (types_of (canonical x)) (canonical_words x.order t)
   canonical_types_kept free =
       let here = types_back x valid small t is in
-      let few = fit.types in
       keeps_types x.order (types_strings t) t.records records names_there strings_short free (types_of (canonical x)) (order_back x valid small) here.bytes_are
       (omega (arith, few, ap length here.bytes_are))

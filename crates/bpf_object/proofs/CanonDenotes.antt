@@ -1,37 +1,46 @@
 -- The canonical file of an object that a file denotes denotes this object.
-use Rattle.std.proofs.Common.{◌≡◌, ℕ, ◌+◌, ◌==◌, ◌&&◌, Bool, true, false, not, List, [], ◌∷◌, Option, Some, None, length, if◌then◌else◌, inl, inr, refl, sym, ap, subst, ◌∙◌, arith}
-use Rattle.std.specs.Prelude.{nat_lt, nat_le}
-use Rattle.std.proofs.lemmas.Bool.{and_parts, cases_Bool, ltb-true, leb-true, eqb-true, ne_eqb, not-false}
+use Rattle.std.proofs.Common.{◌≡◌, ℕ, ◌≤◌, ◌==◌, ◌&&◌, Bool, true, false, not, List, [], ◌∷◌, Option, Some, None, length, if◌then◌else◌, inl, inr, refl, sym, ap, subst, ◌∙◌, arith}
+use Rattle.std.specs.Prelude.{nat_le}
+use Rattle.std.proofs.lemmas.Bool.{and_parts, and_from, cases_Bool, leb-true, eqb-true, ne_eqb, not-false}
 use Rattle.bpf_words.specs.{Words.IsBytes}
-use Rattle.bpf_elf.specs.{Header.FILE_LIMIT, Header.SHN_LORESERVE, Numbers.offset, Sections.content, Rules.AllHold}
+use Rattle.bpf_elf.specs.{Header.FILE_LIMIT, Numbers.offset, Sections.content, Rules.AllHold}
+use Rattle.bpf_elf.proofs.SectionFacts.{content_short}
 use Rattle.bpf_object.specs.Objects.{ObjectTypes, Object}
-use Rattle.bpf_object.specs.Canonical.{strings_of, offset_of, types_strings, has_extension, extension_bytes, written_sections, canonical}
-use Rattle.bpf_object.specs.Denotes.{extension_at, extension_of, rules_of_extension, object_types, HoldsTypes, TypesAre, types_fit, is_small, Denotes}
+use Rattle.bpf_object.specs.Canonical.{strings_of, offset_of, types_strings, has_extension, btf_bytes, extension_bytes, canonical}
+use Rattle.bpf_object.specs.Denotes.{extension_at, extension_of, rules_of_extension, object_types, HoldsTypes, TypesAre, types_fit, result_limit, is_small, Denotes}
 use Rattle.bpf_object.specs.Extension.{Section}
 use Rattle.bpf_object.specs.Groups.{function_groups, relocation_groups}
 use Rattle.bpf_object.specs.Lines.{extension_rules}
-use Rattle.bpf_object.proofs.ReadBackTests.{equal_test}
+use Rattle.bpf_object.proofs.ReadBackTests.{equal_test, most_test}
 use Rattle.bpf_object.proofs.CanonValid.{ValidObject, IsSmall}
 use Rattle.bpf_object.proofs.CanonReads.{order_back, object_back}
 use Rattle.bpf_object.proofs.CanonSymbols.{canonical_is_elf}
 use Rattle.bpf_object.proofs.CanonAcceptedSymbols.{object_is_valid}
 use Rattle.bpf_object.proofs.CanonTypes.{types_back, no_types_back, extension_back, no_extension_back, no_extension_of_back}
-use Rattle.bpf_object.proofs.CanonBtfKept.{AreSmallTypes, small_types, canonical_words, strings_short, canonical_records, canonical_types_kept}
+use Rattle.bpf_object.proofs.CanonBtfKept.{small_types, canonical_words, strings_short, canonical_records, canonical_types_kept}
 use Rattle.bpf_object.proofs.CanonExtensionKept.{SaysExtension, written_section, extension_said}
+use Rattle.bpf_object.proofs.CanonFew.{few_written}
 use Rattle.bpf_object.proofs.CanonHeld.{AreValidTypes, types_are_valid, no_functions, no_relocations}
 use Rattle.bpf_object.proofs.DenotesOne.{denotes_one}
 
 -- ---- what is_small says
 
-pub record SmallParts (x : Object) : Type 0 where
-  pub types : types_fit x ≡ true
-  pub file : IsSmall x
+record SmallParts (x : Object) : Type 0 where
+  types : types_fit x ≡ true
+  short : length (canonical x) ≤ FILE_LIMIT
 
-pub small_parts : (x : Object) → is_small x ≡ true → SmallParts x
-small_parts x small =
-    let parts = and_parts (types_fit x) (nat_lt (length (written_sections x) + 1) SHN_LORESERVE && nat_le (length (canonical x)) FILE_LIMIT) small in
-    let sizes = and_parts (nat_lt (length (written_sections x) + 1) SHN_LORESERVE) (nat_le (length (canonical x)) FILE_LIMIT) parts.1 in
-    record { types = parts.0; file = record { few = ltb-true _ _ sizes.0; short = leb-true _ _ sizes.1 } }
+small_parts : (n : ℕ) (x : Object) → is_small n x ≡ true → SmallParts x
+small_parts n x small =
+    let parts = and_parts (types_fit x) (nat_le (length (canonical x)) (result_limit n)) small in
+    let within : length (canonical x) ≤ result_limit n = leb-true _ _ parts.1 in
+    record { types = parts.0; short = omega (arith, within) }
+
+-- a canonical file isn't too large for itself
+small_again : (x : Object) → SmallParts x → is_small (length (canonical x)) x ≡ true
+small_again x small =
+    let short = small.short in
+    and_from (types_fit x) (nat_le (length (canonical x)) (result_limit (length (canonical x)))) small.types
+    (most_test (length (canonical x)) (result_limit (length (canonical x))) (omega (arith, short)))
 
 -- ---- .BTF.ext
 
@@ -53,7 +62,7 @@ both_none a b h =
     let both = and_parts (a == 0) (b == 0) (not-false (a == 0 && b == 0) h) in
     (eqb-true a 0 both.0, eqb-true b 0 both.1)
 
-module _ (x : Object) (valid : ValidObject x) (small : IsSmall x) (t : ObjectTypes) (is : x.types ≡ Some t) (fit : AreSmallTypes x.order t) (types : AreValidTypes t) where
+module _ (x : Object) (valid : ValidObject x) (small : IsSmall x) (t : ObjectTypes) (is : x.types ≡ Some t) (few : length (btf_bytes x.order t) ≤ 15728640) (types : AreValidTypes t) where
   abbrev strings : List ℕ
   strings = strings_of (types_strings t)
 
@@ -67,9 +76,10 @@ module _ (x : Object) (valid : ValidObject x) (small : IsSmall x) (t : ObjectTyp
       let there : (extension_at c == 0) ≡ false = ne_eqb (extension_at c) 0 (λ e. omega (arith, e, some)) in
       let whole : (extension_of c strings).bytes ≡ bytes = ap (λ (y : Bool). if y then [] else content c (extension_at c)) there ∙ here.bytes_are in
       let start = offset c (extension_at c) in
-      let short = strings_short x valid small t is fit types.records in
-      let said = extension_said x.order start t types.extension short (fit.extension has) has in
-      let same : written_section x.order start t types.extension short (fit.extension has) ≡ extension_of c strings =
+      let short = strings_short x valid small t is few types.records in
+      let fits : length bytes ≤ FILE_LIMIT = subst (λ (xs : List ℕ). length xs ≤ FILE_LIMIT) here.bytes_are (content_short c (extension_at c) small.short) in
+      let said = extension_said x.order start t types.extension short fits has in
+      let same : written_section x.order start t types.extension short fits ≡ extension_of c strings =
       same_section (record { order = x.order; start = start; bytes = bytes; strings = strings }) (extension_of c strings) (sym (order_back x valid small)) refl (sym whole) refl in
       let says : SaysExtension (extension_of c strings) t = subst (λ (s : Section). SaysExtension s t) same said in
       record {
@@ -106,10 +116,10 @@ module _ (x : Object) (valid : ValidObject x) (small : IsSmall x) (t : ObjectTyp
       record {
         sections = canonical_words x.order t;
         there = here.some;
-        types = canonical_types_kept x valid small t is fit types.records types.free;
+        types = canonical_types_kept x valid small t is few types.records types.free;
         extension = says.rules;
         whole =
-            same_types t (object_types (canonical_words x.order t) (extension_of (canonical x) strings)) (sym (canonical_records x valid small t is fit types.records))
+            same_types t (object_types (canonical_words x.order t) (extension_of (canonical x) strings)) (sym (canonical_records x valid small t is few types.records))
             (sym says.functions) (sym says.relocations);
       }
 
@@ -119,9 +129,10 @@ no_types_are x valid small is =
     (no_types_back x valid small is, rw none refl)
 
 -- the types of the canonical file, if those of the file are these
-types_are : (b : List ℕ) (x : Object) → IsBytes b → ValidObject x → SmallParts x → (o : Option ObjectTypes) → x.types ≡ o → TypesAre b o → TypesAre (canonical x) o
-types_are b x bytes valid small None is held = no_types_are x valid small.file is
-types_are b x bytes valid small (Some t) is held = canonical_holds x valid small.file t is (small_types x t is small.types) (types_are_valid b t bytes held)
+types_are : (b : List ℕ) (x : Object) → IsBytes b → ValidObject x → IsSmall x → types_fit x ≡ true → (o : Option ObjectTypes) → x.types ≡ o → TypesAre b o
+    → TypesAre (canonical x) o
+types_are b x bytes valid small fit None is held = no_types_are x valid small is
+types_are b x bytes valid small fit (Some t) is held = canonical_holds x valid small t is (small_types x t is fit) (types_are_valid b t bytes held)
 
 pub denoted_valid : (b : List ℕ) (x : Object) → IsBytes b → Denotes b x → ValidObject x
 denoted_valid b x bytes d = subst ValidObject (sym d.whole) (object_is_valid b bytes d.elf x.types)
@@ -129,12 +140,13 @@ denoted_valid b x bytes d = subst ValidObject (sym d.whole) (object_is_valid b b
 pub canonical_denotes : (b : List ℕ) (x : Object) → IsBytes b → Denotes b x → Denotes (canonical x) x
 canonical_denotes b x bytes d =
     let valid = denoted_valid b x bytes d in
-    let small = small_parts x d.small in
+    let parts = small_parts (length b) x d.small in
+    let small : IsSmall x = record { few = few_written b x bytes d; short = parts.short } in
     record {
-      elf = canonical_is_elf x valid small.file;
-      types = types_are b x bytes valid small x.types refl d.types;
-      whole = sym (object_back x valid small.file);
-      small = d.small;
+      elf = canonical_is_elf x valid small;
+      types = types_are b x bytes valid small parts.types x.types refl d.types;
+      whole = sym (object_back x valid small);
+      small = small_again x parts;
     }
 
 -- a canonical file is its own canonical file

@@ -1,24 +1,29 @@
 -- The canonical file of an accepted file doesn't have more sections.
-use Rattle.std.proofs.Common.{◌≡◌, ℕ, zero, suc, ◌+◌, ◌<◌, ◌≤◌, ◌==◌, ◌||◌, Bool, true, false, cond, not, List, [], ◌∷◌, Option, Some, None, length, codes, if◌then◌else◌, inl, inr, refl, sym, ap, ◌∙◌, arith}
+use Rattle.std.proofs.Common.{◌≡◌, ℕ, zero, suc, ◌+◌, ◌<◌, ◌≤◌, ◌==◌, ◌&&◌, ◌||◌, Bool, true, false, cond, not, List, [], ◌∷◌, Option, Some, None, length, codes, if◌then◌else◌, inl, inr, refl, sym, ap, ◌∙◌, arith}
 use Rattle.std.specs.Prelude.{is_some}
-use Rattle.std.proofs.lemmas.Bool.{cases_Bool, eqb-true}
+use Rattle.std.proofs.lemmas.Bool.{cases_Bool, cases_lt, eqb-true}
 use Rattle.bpf_words.specs.Words.{IsBytes}
 use Rattle.bpf_elf.specs.declared.kinds.Kind.{Kind}
 use Rattle.bpf_elf.specs.declared.kinds.Kind.TheVariants.{Data, Relocations, Symbols, Types, Extension, Dropped}
 use Rattle.bpf_elf.specs.Numbers as number
 use Rattle.bpf_elf.specs.Numbers.{order_of}
 use Rattle.bpf_elf.specs.Kinds.{SHT_STRTAB, kind_of, if_fits, is_kind}
-use Rattle.bpf_elf.specs.Sections.{kind, name, section_of}
+use Rattle.bpf_elf.specs.Header.{SHN_LORESERVE}
+use Rattle.bpf_elf.specs.Sections.{content, kind, name, section_of}
 use Rattle.bpf_elf.specs.ElfRules.{IsElf}
+use Rattle.bpf_elf.proofs.KindLemmas.{true_false}
 use Rattle.bpf_elf.proofs.RuleLemmas.{first_of_there}
-use Rattle.bpf_object.specs.Objects.{ObjectTypes}
+use Rattle.bpf_object.specs.Objects.{Function, CoreRelocation, Group, ObjectTypes, Object}
 use Rattle.bpf_object.specs.Canonical.{has_extension, types_names, written_sections}
 use Rattle.bpf_object.specs.Kept.{number_of}
-use Rattle.bpf_object.specs.Denotes.{object_of}
+use Rattle.bpf_object.specs.Denotes.{extension_at, extension_of, object_of, HoldsTypes, TypesAre, Denotes}
+use Rattle.bpf_object.specs.Groups.{relocation_groups}
 use Rattle.bpf_object.proofs.CanonLists.{number_less}
 use Rattle.bpf_object.proofs.CanonRows.{row_count, row_count_is}
-use Rattle.bpf_object.proofs.CanonRules.{zero_bytes, word_zero, left_false, HasNamesTable, section_facts, symbol_table_facts, names_facts}
+use Rattle.bpf_object.proofs.CanonRules.{zero_bytes, word_zero, left_false, HasNamesTable, few_sections, section_facts, symbol_table_facts, names_facts}
 use Rattle.bpf_object.proofs.CanonAccepted.{section_count_is}
+use Rattle.bpf_object.proofs.CanonHeld.{no_functions, no_relocations}
+use Rattle.bpf_object.proofs.ReadBackTests.{equal_test}
 
 -- ---- each section has one kind at most
 
@@ -92,38 +97,56 @@ module _ (b : List ℕ) (elf : IsElf b) where
 
 -- ---- the sections that are written anew
 
--- the file has sections for these types
-pub record HasTypesOf (b : List ℕ) (o : Option ObjectTypes) : Type 0 where
-  pub types : (t : ObjectTypes) → o ≡ Some t → 0 < section_of b Types (number.count b)
-  pub extension : (t : ObjectTypes) → o ≡ Some t → has_extension t ≡ true → 0 < section_of b Extension (number.count b)
+-- without a section .BTF.ext there are no groups of it
+no_extension : (b : List ℕ) (t : ObjectTypes) → HoldsTypes b t → (extension_at b == 0) ≡ true → has_extension t ≡ false
+no_extension b t held none =
+    let x = extension_of b held.sections.strings in
+    let empty : x.bytes ≡ [] = ap (λ (y : Bool). if y then [] else content b (extension_at b)) none in
+    ap (λ (u : ObjectTypes). has_extension u) held.whole
+    ∙ ap (λ (fs : List (Group Function)). not (length fs == 0 && length (relocation_groups x) == 0)) (no_functions x empty)
+    ∙ ap (λ (rs : List (Group CoreRelocation)). not (length rs == 0)) (no_relocations x empty)
 
-module _ (b : List ℕ) (elf : IsElf b) (types : Option ObjectTypes) (has : HasTypesOf b types) where
-  types_count : length (types_names types) ≤ number_of (λ i. is_kind Types (kind b i)) (number.count b) + number_of (λ i. is_kind Extension (kind b i)) (number.count b)
-  types_count = at types refl
-    where
-      with : (t : ObjectTypes) → types ≡ Some t → (y : Bool) → has_extension t ≡ y
-          → length (codes ".BTF" ∷ (if y then codes ".BTF.ext" ∷ [] else [])) ≤ number_of (λ i. is_kind Types (kind b i)) (number.count b) + number_of (λ i. is_kind Extension (kind b i)) (number.count b)
-      with t is true y = omega (arith, found b elf Types (has.types t is), found b elf Extension (has.extension t is y))
-      with t is false y = omega (arith, found b elf Types (has.types t is))
+extension_there : (b : List ℕ) (t : ObjectTypes) → HoldsTypes b t → has_extension t ≡ true → 0 < extension_at b
+extension_there b t held has = elim (cases_lt 0 (extension_at b)) [
+  | inl some ↦ some
+  | inr none ↦ absurd (true_false (sym has ∙ no_extension b t held (equal_test (extension_at b) 0 (omega (arith, none)))))
+]
 
-      at : (o : Option ObjectTypes) → types ≡ o
-          → length (types_names o) ≤ number_of (λ i. is_kind Types (kind b i)) (number.count b) + number_of (λ i. is_kind Extension (kind b i)) (number.count b)
-      at None is = omega arith
-      at (Some t) is = with t is (has_extension t) refl
+module _ (b : List ℕ) (elf : IsElf b) where
+  abbrev most : ℕ
+  most = number_of (λ i. is_kind Types (kind b i)) (number.count b) + number_of (λ i. is_kind Extension (kind b i)) (number.count b)
+
+  names_count : (t : ObjectTypes) → HoldsTypes b t → (y : Bool) → has_extension t ≡ y → length (codes ".BTF" ∷ (if y then codes ".BTF.ext" ∷ [] else [])) ≤ most
+  names_count t held true is = omega (arith, found b elf Types held.there, found b elf Extension (extension_there b t held is))
+  names_count t held false is = omega (arith, found b elf Types held.there)
+
+  types_count : (o : Option ObjectTypes) → TypesAre b o → length (types_names o) ≤ most
+  types_count None held = omega arith
+  types_count (Some t) held = names_count t held (has_extension t) refl
 
   -- the canonical file doesn't have more sections
-  pub fewer_sections : IsBytes b → length (written_sections (object_of b types)) + 1 ≤ number.count b
+  fewer_sections : IsBytes b → (o : Option ObjectTypes) → TypesAre b o → length (written_sections (object_of b o)) + 1 ≤ number.count b
   unfolding row_count
-  fewer_sections bytes =
+  fewer_sections bytes o held =
       let table = symbol_table_facts b elf in
       let there = (names_facts b elf).there in
       omega (
         arith,
-        row_count_is (object_of b types),
-        section_count_is b bytes elf types,
+        row_count_is (object_of b o),
+        section_count_is b bytes elf o,
         all_kinds (λ i. kind b i) (number.count b),
         found b elf Symbols table.there,
         some_of (λ i. is_kind Dropped (kind b i)) (number.names b) (number.count b) there (names_dropped b elf),
         some_of (λ i. not (is_some (kind b i))) 0 (number.count b) (omega (arith, there)) refl,
-        types_count,
+        types_count o held,
       )
+
+-- so they can be counted
+pub few_written : (b : List ℕ) (x : Object) → IsBytes b → Denotes b x → length (written_sections x) + 1 < SHN_LORESERVE
+few_written b x bytes d =
+    omega (
+      arith,
+      ap (λ (y : Object). length (written_sections y)) d.whole,
+      fewer_sections b d.elf bytes x.types d.types,
+      few_sections b d.elf,
+    )

@@ -1,10 +1,10 @@
 -- The canonical file of an object is that of what its file keeps, with the bytes of its types.
-use Rattle.std.proofs.Common.{◌≡◌, ℕ, ◌+◌, ◌&&◌, Bool, true, false, Option, Some, None, List, [], ◌∷◌, ◌++◌, length, map, refl, ap, ◌∙◌}
-use Rattle.std.specs.Prelude.{codes, nat_lt, nat_le, slice_index_or}
-use Rattle.bpf_elf.specs.{Header.FILE_LIMIT, Header.SHN_LORESERVE, Numbers.order_of, Numbers.flags_of}
+use Rattle.std.proofs.Common.{◌≡◌, ℕ, ◌+◌, ◌&&◌, true, false, Bool, Option, Some, None, List, [], ◌∷◌, ◌++◌, length, map, refl, ap, ◌∙◌}
+use Rattle.std.specs.Prelude.{codes, nat_le, slice_index_or}
+use Rattle.bpf_elf.specs.Numbers.{order_of, flags_of}
 use Rattle.bpf_words.specs.declared.Order.{Order}
 use Rattle.bpf_object.specs.Canonical.{offset_of, written_section, types_names, types_sections, written_sections, has_extension, canonical}
-use Rattle.bpf_object.specs.Denotes.{object_of, types_fit, is_small}
+use Rattle.bpf_object.specs.Denotes.{object_of, types_fit, result_limit, is_small}
 use Rattle.bpf_object.specs.File.{WrittenSection, file_of}
 use Rattle.bpf_object.specs.FileWith.{btf_content, extension_content, names_with, section_with, last_with, sections_with, file_with, fits_with}
 use Rattle.bpf_object.specs.Kept.{kept_sections, kept_symbols}
@@ -82,24 +82,6 @@ pub file_is : (b : List ℕ) (t : Option ObjectTypes)
 file_is b t =
     from_object b t ∙ ap (file_from b) (sections_are b t) ∙ from_contents b (btf_content (order_of b) t) (extension_content (order_of b) t)
 
-fits : List WrittenSection → List ℕ → Bool
-fits ws file = nat_lt (length ws + 1) SHN_LORESERVE && nat_le (length file) FILE_LIMIT
-
-small_object : (b : List ℕ) (t : Option ObjectTypes)
-    → is_small (object_of b t) ≡ (types_fit (object_of b t) && fits (written_sections (object_of b t)) (canonical (object_of b t)))
-unfolding fits
-small_object b t = refl
-
-fits_contents : (b : List ℕ) (types extension : Option (List ℕ)) → fits (sections_with b types extension) (file_with b types extension) ≡ fits_with b types extension
-unfolding fits
-fits_contents b types extension = refl
-
 pub small_is : (b : List ℕ) (t : Option ObjectTypes)
-    → is_small (object_of b t) ≡ (types_fit (object_of b t) && fits_with b (btf_content (order_of b) t) (extension_content (order_of b) t))
-small_is b t =
-    let types = btf_content (order_of b) t in
-    let extension = extension_content (order_of b) t in
-    small_object b t
-    ∙ ap (λ (ws : List WrittenSection). types_fit (object_of b t) && fits ws (canonical (object_of b t))) (sections_are b t)
-    ∙ ap (λ (file : List ℕ). types_fit (object_of b t) && fits (sections_with b types extension) file) (file_is b t)
-    ∙ ap (λ (x : Bool). types_fit (object_of b t) && x) (fits_contents b types extension)
+    → is_small (length b) (object_of b t) ≡ (types_fit (object_of b t) && fits_with b (btf_content (order_of b) t) (extension_content (order_of b) t))
+small_is b t = ap (λ (file : List ℕ). types_fit (object_of b t) && nat_le (length file) (result_limit (length b))) (file_is b t)

@@ -1,12 +1,9 @@
 -- Whether .BTF and .BTF.ext of an object fit, from those that are written.
-use Rattle.std.proofs.Common.{◌≡◌, ℕ, ◌<◌, ◌≤◌, ◌==◌, ◌&&◌, Bool, true, false, not, Some, None, List, [], ◌∷◌, ◌++◌, length, refl, sym, ap, ◌∙◌, subst, length-append, arith}
-use Rattle.std.specs.Prelude.{nat_le}
+use Rattle.std.proofs.Common.{◌≡◌, ℕ, ◌<◌, ◌≤◌, ◌==◌, ◌&&◌, true, false, not, Some, None, inr, List, [], ◌∷◌, ◌++◌, length, refl, sym, ap, ◌∙◌, subst, length-append, arith}
 use Rattle.std.specs.List.{All, Contains, flat_map}
-use Rattle.std.proofs.lemmas.Bool.Decides.{nat_tests}
 use Rattle.std.proofs.lemmas.List.{length-map}
 use Rattle.std.proofs.lemmas.List.Elements.{All-nil, All-cons}
 use Rattle.std.specs.declared.vec.Vec.{Vec}
-use Rattle.bpf_elf.specs.Header.{FILE_LIMIT}
 use Rattle.btf_raw.specs.Header.{header}
 use Rattle.btf_types.specs.{Sections.SectionWords, Sections.records_in, tables.TableInvariant.IsTable}
 use Rattle.bpf_canon.specs.btf.strings.{NamesByOffset.NamesByOffset, NamesByOffset.texts_by_offset, DistinctNames.distinct_table}
@@ -16,14 +13,15 @@ use Rattle.bpf_canon.proofs.BtfLemmas.Write.SectionFiles.{each_noted}
 use Rattle.bpf_object.specs.declared.{extension.Part.Part, source.Source.Source}
 use Rattle.bpf_object.specs.declared.extension.Part.TheVariants.{Functions, Relocations}
 use Rattle.bpf_object.specs.Canonical.{types_bytes, btf_bytes, extension_bytes, offset_of, types_strings, has_extension}
-use Rattle.bpf_object.specs.Denotes.{object_types, both_fit}
+use Rattle.bpf_object.specs.Denotes.{object_types, btf_fits}
 use Rattle.bpf_object.specs.Extension.{Section, groups}
 use Rattle.bpf_object.specs.Groups.{function_group, relocation_group}
 use Rattle.bpf_object.specs.Objects.{ObjectTypes}
 use Rattle.bpf_object.specs.NotedStrings.{HasStrings, text_offset}
 use Rattle.bpf_object.specs.Sources.{section}
 use Rattle.bpf_object.specs.WrittenGroups.{group_offsets, groups_offsets, written_extension}
-use Rattle.bpf_object.specs.WrittenTypes.{both_offsets, both_names, written_btf, AreWritten}
+use Rattle.bpf_object.specs.WrittenTypes.{both_offsets, both_names, written_btf, AreTooLong, AreWritten}
+use Rattle.bpf_object.proofs.ReadBackTests.{most_test}
 use Rattle.bpf_object.proofs.OffsetLemmas.{placed_is, btf_is}
 use Rattle.bpf_object.proofs.WrittenExtension.{extension_is}
 
@@ -62,21 +60,6 @@ module _ (s : SectionWords) (x : Source) (names : NamesByOffset) (same : x.strin
 
 -- ---- what fits
 
-first_too_long : (a limit : ℕ) (q : Bool) → limit < a → (nat_le a limit && q) ≡ false
-first_too_long a limit q lt =
-    let no : nat_le a limit ≡ false = grind (arith, nat_tests) in
-    rw no refl
-
-and_false : (p : Bool) → (p && false) ≡ false
-and_false true = refl
-and_false false = refl
-
-at_most : (a limit : ℕ) → a ≤ limit → nat_le a limit ≡ true
-at_most a limit le = grind (arith, nat_tests)
-
-more_than : (a limit : ℕ) → limit < a → nat_le a limit ≡ false
-more_than a limit lt = grind (arith, nat_tests)
-
 module _ (s : SectionWords) (x : Section) (same : s.strings ≡ x.strings) (table : IsTable s) (names : NamesByOffset) (are : names ≡ both_names s x) where
   abbrev t : ObjectTypes
   t = object_types s x
@@ -88,18 +71,18 @@ module _ (s : SectionWords) (x : Section) (same : s.strings ≡ x.strings) (tabl
   same_btf : written_btf x.order s names ≡ btf_bytes x.order t
   same_btf = ap (written_btf x.order s) are ∙ btf_is s x same table x.order
 
-  pub no_btf : 15728640 < length (written_btf x.order s names) → both_fit x.order t ≡ false
-  no_btf lt = first_too_long (length (btf_bytes x.order t)) 15728640 _ (subst (λ (b : List ℕ). 15728640 < length b) same_btf lt)
+  pub long_btf : (limit : ℕ) → limit < length (written_btf x.order s names) → limit < length (btf_bytes x.order t)
+  long_btf limit lt = subst (λ (b : List ℕ). limit < length b) same_btf lt
 
-  pub no_table : 15728640 < length (distinct_table (texts_by_offset names)) → both_fit x.order t ≡ false
-  no_table lt =
+  pub long_table : (limit : ℕ) → limit < length (distinct_table (texts_by_offset names)) → limit < length (btf_bytes x.order t)
+  long_table limit lt =
       let types = types_bytes x.order (text_offset names) (records_in s) in
       let strings = distinct_table (texts_by_offset names) in
       let whole = length-append (header x.order 24 0 (length types) (length types) (length strings) ++ types) strings in
-      no_btf (omega (arith, lt, whole))
+      long_btf limit (omega (arith, lt, whole))
 
-  fits_btf : length (written_btf x.order s names) ≤ 15728640 → nat_le (length (btf_bytes x.order t)) 15728640 ≡ true
-  fits_btf le = at_most (length (btf_bytes x.order t)) 15728640 (subst (λ (b : List ℕ). length b ≤ 15728640) same_btf le)
+  fits_btf : length (written_btf x.order s names) ≤ 15728640 → btf_fits x.order t ≡ true
+  fits_btf le = most_test (length (btf_bytes x.order t)) 15728640 (subst (λ (b : List ℕ). length b ≤ 15728640) same_btf le)
 
   -- .BTF.ext of these groups
   module _ (fs rs : List ℕ) (functions : fs ≡ groups x Functions) (relocations : rs ≡ groups x Relocations) where
@@ -111,24 +94,19 @@ module _ (s : SectionWords) (x : Section) (same : s.strings ≡ x.strings) (tabl
         rw (functions, relocations, are) (extension_is s x (text_offset (both_names s x)))
         ∙ ap (λ (p : List ℕ → ℕ). extension_bytes x.order p t) (placed_is s x same table)
 
-    pub no_extension : not (length fs == 0 && length rs == 0) ≡ true → FILE_LIMIT < length (written_extension x (text_offset names) fs rs)
-        → both_fit x.order t ≡ false
-    no_extension some lt =
-        let has : has_extension t ≡ true = has_is ∙ some in
-        let long : FILE_LIMIT < length extension = subst (λ (b : List ℕ). FILE_LIMIT < length b) same_extension lt in
-        rw (has, more_than (length extension) FILE_LIMIT long) (and_false (nat_le (length (btf_bytes x.order t)) 15728640))
+    pub long_extension : (limit : ℕ) → not (length fs == 0 && length rs == 0) ≡ true → limit < length (written_extension x (text_offset names) fs rs)
+        → AreTooLong limit x.order t
+    long_extension limit some lt = inr (has_is ∙ some, subst (λ (b : List ℕ). limit < length b) same_extension lt)
 
     pub without_extension : {A : Type 0} (types : Vec ℕ A) → not (length fs == 0 && length rs == 0) ≡ false → length (written_btf x.order s names) ≤ 15728640
         → types.items ≡ written_btf x.order s names → AreWritten x.order t (record { types = types; extension = None })
     without_extension types none le is =
         let has : has_extension t ≡ false = has_is ∙ none in
-        record { fit = rw (has, fits_btf le) refl; types = is ∙ same_btf; extension = rw has refl }
+        record { fit = fits_btf le; types = is ∙ same_btf; extension = rw has refl }
 
     pub with_extension : {A : Type 0} (types bytes : Vec ℕ A) → not (length fs == 0 && length rs == 0) ≡ true → length (written_btf x.order s names) ≤ 15728640
-        → types.items ≡ written_btf x.order s names → length (written_extension x (text_offset names) fs rs) ≤ FILE_LIMIT
-        → bytes.items ≡ written_extension x (text_offset names) fs rs → AreWritten x.order t (record { types = types; extension = Some bytes })
-    with_extension types bytes some le is short whole =
+        → types.items ≡ written_btf x.order s names → bytes.items ≡ written_extension x (text_offset names) fs rs
+        → AreWritten x.order t (record { types = types; extension = Some bytes })
+    with_extension types bytes some le is whole =
         let has : has_extension t ≡ true = has_is ∙ some in
-        let fits : nat_le (length extension) FILE_LIMIT ≡ true =
-        at_most (length extension) FILE_LIMIT (subst (λ (b : List ℕ). length b ≤ FILE_LIMIT) same_extension short) in
-        record { fit = rw (has, fits_btf le, fits) refl; types = is ∙ same_btf; extension = rw has (ap Some (whole ∙ same_extension)) }
+        record { fit = fits_btf le; types = is ∙ same_btf; extension = rw has (ap Some (whole ∙ same_extension)) }

@@ -1,6 +1,6 @@
 -- A file denotes at most one object, and one that denotes an object has no fault.
-use Rattle.std.proofs.Common.{◌≡◌, ℕ, zero, suc, ◌<◌, ◌&&◌, Bool, true, false, lit<, Result, Ok, Err, Option, Some, None, List, [], ◌∷◌, take, drop, inr, refl, sym, ◌∙◌, ap, subst, arith}
-use Rattle.std.proofs.lemmas.Bool.Decides.{nat_tests}
+use Rattle.std.proofs.Common.{◌≡◌, ℕ, zero, suc, ◌<◌, ◌≤◌, ◌&&◌, min, Bool, true, false, lit<, Result, Ok, Err, Option, Some, None, List, [], ◌∷◌, length, take, drop, inl, inr, refl, sym, ◌∙◌, ap, subst, arith}
+use Rattle.std.proofs.lemmas.Bool.{cases_lt, Decides.nat_tests}
 use Rattle.std.specs.Prelude.{MatchResult, ◌==◌, if◌then◌else◌}
 use Rattle.bpf_words.specs.{Words.IsBytes}
 use Rattle.bpf_elf.specs.{ElfRules.IsElf, Rules.Broken, Rules.broken, Rules.first_broken, Rules.AllHold}
@@ -10,18 +10,20 @@ use Rattle.btf_types.specs.{Sections.SectionWords, Sections.records_in}
 use Rattle.btf_types.proofs.{CheckLemmas.FaultLaws.no_fault_is_accepted}
 use Rattle.bpf_object.specs.declared.fault.{ObjectError.ObjectError, ObjectFault.ObjectFault}
 use Rattle.bpf_object.specs.declared.fault.ObjectError.TheVariants as errors
-use Rattle.bpf_object.specs.Canonical.{canonical}
-use Rattle.bpf_object.specs.Denotes.{Denotes, HoldsTypes, TypesAre, types_at, types_of, extension_at, rules_of_extension, object_types, object_of, extension_of, both_fit, types_fit, is_small, IsCanonicalFile}
+use Rattle.bpf_object.specs.Canonical.{btf_bytes, extension_bytes, offset_of, types_strings, canonical}
+use Rattle.bpf_object.specs.Denotes.{Denotes, HoldsTypes, TypesAre, types_at, types_of, extension_at, rules_of_extension, object_types, object_of, extension_of, btf_fits, types_fit, result_limit, is_small, IsCanonicalFile}
 use Rattle.bpf_object.specs.FileWith.{btf_content, extension_content, file_with, fits_with}
 use Rattle.bpf_object.specs.{Extension.Section, Faults.IsFirstFault, Faults.ObjectRule, Lines.extension_rules}
 use Rattle.bpf_object.specs.ObjectFaults.{IsFault, of_elf, without_types, of_types, of_extension, of_result, IsWithoutTypesFault, IsFaultOfTypes, IsFaultOfExtension, IsFaultOfResult, IsTooLarge, Fails, FailsToFit}
 use Rattle.bpf_object.specs.Objects.{ObjectTypes, Object}
 use Rattle.bpf_object.specs.declared.source.Source.{Source}
-use Rattle.bpf_object.specs.{NotedStrings.IsChecked, Sources.section, WrittenTypes.IsRead}
+use Rattle.bpf_object.specs.{NotedStrings.IsChecked, Sources.section, WrittenTypes.IsRead, WrittenTypes.AreTooLong}
 use Rattle.bpf_object.specs.Types.{TypesSection}
 use Rattle.bpf_object.specs.TypesFaults.{KeepsTypes, IsTypesFault, FailsTypes, of_size, of_btf, of_rules}
 use Rattle.bpf_object.proofs.DenotesOne.{words_one, types_one, denotes_one}
 use Rattle.bpf_object.proofs.FileBridge.{file_is, small_is}
+use Rattle.bpf_object.proofs.PartLemmas.{types_too_long, extension_too_long}
+use Rattle.bpf_object.proofs.ReadBackTests.{over_test}
 
 -- ---- no fault
 
@@ -69,7 +71,7 @@ different e = cc
 result_is_small : (b : List ℕ) (x : Object) (fault : ObjectFault) → Denotes b x → IsFaultOfResult b fault → ⊥
 result_is_small b x fault d f =
     let same : object_of b f.held ≡ x = ap (object_of b) (types_one b f.held x.types f.types d.types) ∙ sym d.whole in
-    different (sym d.small ∙ ap is_small (sym same) ∙ f.large)
+    different (sym d.small ∙ ap (is_small (length b)) (sym same) ∙ f.large)
 
 pub faultless : (b : List ℕ) (x : Object) (fault : ObjectFault) → IsBytes b → Denotes b x → IsFault b fault → ⊥
 faultless b x fault bytes d (of_elf f) = broken_none _ _ f.first d.elf
@@ -120,17 +122,15 @@ no_fit : (x y : Bool) → y ≡ false → (x && y) ≡ false
 no_fit true y over = over
 no_fit false y over = refl
 
+least_passed : (a b n : ℕ) → min a b < n → n ≤ a → b < n
+least_passed a b n lt le = omega (arith, lt, le)
+
 pub file_made : (b : List ℕ) (t : Option ObjectTypes) (out : List ℕ) → IsElf b → TypesAre b t → types_fit (object_of b t) ≡ true
     → fits_with b (btf_content (order_of b) t) (extension_content (order_of b) t) ≡ true
     → out ≡ file_with b (btf_content (order_of b) t) (extension_content (order_of b) t) → IsCanonicalFile b out
 file_made b t out elf types small fits is =
     let both : (types_fit (object_of b t) && fits_with b (btf_content (order_of b) t) (extension_content (order_of b) t)) ≡ true = rw (small, fits) refl in
     (object_of b t, (record { elf = elf; types = types; whole = refl; small = small_is b t ∙ both }, is ∙ sym (file_is b t)))
-
-pub large_types : (b : List ℕ) (t : Option ObjectTypes) (f : ObjectFault) → IsElf b → TypesAre b t → types_fit (object_of b t) ≡ false → IsTooLarge f → IsFault b f
-large_types b t f elf types over is =
-    let large : is_small (object_of b t) ≡ false = small_is b t ∙ ap (λ (x : Bool). x && fits_with b (btf_content (order_of b) t) (extension_content (order_of b) t)) over in
-    of_result (record { held = t; elf = elf; types = types; large = large; result = is })
 
 large_file : (b : List ℕ) (t : Option ObjectTypes) (f : ObjectFault) → IsElf b → TypesAre b t
     → fits_with b (btf_content (order_of b) t) (extension_content (order_of b) t) ≡ false → IsTooLarge f → IsFault b f
@@ -164,16 +164,39 @@ pub record Keeps (b : List ℕ) (s : SectionWords) : Type 0 where
 held : (b : List ℕ) (s : SectionWords) → Keeps b s → HoldsTypes b (object_types s (extension_of b s.strings))
 held b s k = record { sections = s; there = k.there; types = k.types; extension = k.extension; whole = refl }
 
-pub typed_large : (b : List ℕ) (s : SectionWords) (x : Section) (f : ObjectFault) → Keeps b s → x ≡ extension_of b s.strings → both_fit x.order (object_types s x) ≡ false → IsTooLarge f
-    → IsFault b f
-typed_large b s x f k own over is =
-    let large = subst (λ (x : Section). both_fit x.order (object_types s x) ≡ false) own over in
-    large_types b (Some (object_types s (extension_of b s.strings))) f k.elf (held b s k) large is
+-- .BTF or .BTF.ext is too long, and so is the file
+long_types : (b : List ℕ) (t : ObjectTypes) → AreTooLong (result_limit (length b)) (order_of b) t → is_small (length b) (object_of b (Some t)) ≡ false
+long_types b t (inl lt) =
+    let types = btf_bytes (order_of b) t in
+    let extension = extension_content (order_of b) (Some t) in
+    small_is b (Some t)
+    ∙ elim (cases_lt 15728640 (length types)) [
+      | inl above ↦ ap (λ (x : Bool). x && fits_with b (Some types) extension) (over_test (length types) 15728640 above)
+      | inr below ↦
+          let long : result_limit (length b) < length types = least_passed 15728640 (result_limit (length b)) (length types) lt below in
+          no_fit (btf_fits (order_of b) t) (fits_with b (Some types) extension)
+          (over_test (length (file_with b (Some types) extension)) (result_limit (length b)) (types_too_long b types extension (result_limit (length b)) long))
+    ]
+long_types b t (inr over) =
+    let types = btf_bytes (order_of b) t in
+    let extension = extension_bytes (order_of b) (offset_of (types_strings t)) t in
+    let there : extension_content (order_of b) (Some t) ≡ Some extension = rw over.0 refl in
+    small_is b (Some t) ∙ ap (λ (e : Option (List ℕ)). btf_fits (order_of b) t && fits_with b (Some types) e) there
+    ∙ no_fit (btf_fits (order_of b) t) (fits_with b (Some types) (Some extension))
+    (over_test (length (file_with b (Some types) (Some extension))) (result_limit (length b)) (extension_too_long b types extension (result_limit (length b)) over.1))
+
+pub typed_large : (b : List ℕ) (s : SectionWords) (x : Section) (f : ObjectFault) (limit : ℕ) → Keeps b s → x ≡ extension_of b s.strings → limit ≡ result_limit (length b)
+    → AreTooLong limit x.order (object_types s x) → IsTooLarge f → IsFault b f
+typed_large b s x f limit k own most over is =
+    let t = object_types s (extension_of b s.strings) in
+    let here = subst (λ (x : Section). AreTooLong limit x.order (object_types s x)) own over in
+    let long = subst (λ (n : ℕ). AreTooLong n (order_of b) t) most here in
+    of_result (record { held = Some t; elf = k.elf; types = held b s k; large = long_types b t long; result = is })
 
 -- the contents are those of these types
 abbrev pub ContentsAre : SectionWords → Section → Option (List ℕ) → Option (List ℕ) → Type 0
 ContentsAre s x types extension =
-    (both_fit x.order (object_types s x) ≡ true)
+    (btf_fits x.order (object_types s x) ≡ true)
     × ((types ≡ btf_content x.order (Some (object_types s x))) × (extension ≡ extension_content x.order (Some (object_types s x))))
 
 pub typed_file : {T : Type 0} (items : T → List ℕ) (b : List ℕ) (s : SectionWords) (x : Section) (types extension : Option (List ℕ)) (r : Result T ObjectError) → Keeps b s

@@ -1,23 +1,24 @@
 -- Sections that are written anew, one after the other.
-use Rattle.std.proofs.Common.{◌≡◌, ℕ, zero, suc, ◌+◌, ◌*◌, ◌<◌, ◌==◌, ◌&&◌, cond, Bool, true, false, sym, subst, append-nil, length-append, Option, Some, None, List, [], ◌∷◌, ◌++◌, length, map, get_or, refl, ap, ◌∙◌, append_assoc, arith}
-use Rattle.std.specs.Prelude.{Vec, MatchOption, nat_lt, nat_le, is_some, codes, slice_index_or}
+use Rattle.std.proofs.Common.{◌≡◌, ℕ, zero, suc, ◌+◌, ◌*◌, ◌^◌, ◌<◌, ◌≤◌, ◌==◌, ◌&&◌, cond, Bool, true, false, sym, subst, append-nil, length-append, Option, Some, None, List, [], ◌∷◌, ◌++◌, length, map, get_or, refl, ap, ◌∙◌, append_assoc, arith}
+use Rattle.std.specs.Prelude.{Vec, MatchOption, nat_le, is_some, codes, slice_index_or}
 use Rattle.std.specs.List.{flat_map}
 use Rattle.bpf_words.specs.declared.Order.{Order}
-use Rattle.bpf_elf.specs.{ElfRules.IsElf, Header.FILE_LIMIT, Header.SHN_LORESERVE, Kinds.SHT_SYMTAB, Kinds.SHT_STRTAB, Numbers.order_of, Numbers.flags_of}
+use Rattle.bpf_elf.specs.{ElfRules.IsElf, Kinds.SHT_PROGBITS, Kinds.SHT_SYMTAB, Kinds.SHT_STRTAB, Numbers.count, Numbers.order_of, Numbers.flags_of}
 use Rattle.bpf_elf.specs.Symbols.{symbol_count, is_kept_symbol, is_local, st_info}
 use Rattle.bpf_canon.specs.btf.strings.{NamesByOffset.NamesByOffset, NamesByOffset.texts_by_offset, DistinctNames.distinct_table}
 use Rattle.std.specs.Borrow.{Bor}
+use Rattle.std.proofs.Math.Seq.{get_or-append_seam}
 use Rattle.std.proofs.lemmas.Bool.Decides.{nat_tests}
-use Rattle.std.proofs.lemmas.List.{map-append, length-map, get_or-append-add}
+use Rattle.std.proofs.lemmas.List.{map-append, length-map}
 use Rattle.bpf_object.specs.declared.file.WrittenSection.{WrittenSection as Written}
 use Rattle.bpf_object.specs.Canonical.{own_section, written_section, symbol_bytes, offset_of, strings_of, first_global}
 use Rattle.bpf_object.specs.declared.object_writer.Parts.{Parts}
 use Rattle.bpf_object.specs.FileStrings.{HasOwnStrings}
-use Rattle.bpf_object.specs.FileWith.{name_with, strings_with, section_with, symtab_with, sections_with, file_with, fits_with, IsFileWith}
+use Rattle.bpf_object.specs.FileWith.{name_with, strings_with, section_with, symtab_with, last_with, sections_with, file_with, fits_with, IsFileWith}
 use Rattle.bpf_object.specs.{NotedStrings.text_offset, Objects.KeptSymbol, SymbolRows.globals_from}
-use Rattle.bpf_object.proofs.{CanonLists.length-listed, NamedLemmas.offsets_are, NamedLemmas.table_is, ReadBackLayout.length-file_of, ReadBackLayout.content_there, ReadBackWords.has_inside}
+use Rattle.bpf_object.proofs.{CanonLists.length-listed, CanonRules.few_sections, KeptLemmas.number_below, NamedLemmas.offsets_are, NamedLemmas.table_is, ReadBackLayout.length-file_of, ReadBackLayout.content_there, ReadBackWords.has_inside}
 use Rattle.bpf_object.specs.File.{WrittenSection, content_offset, padding, file_of}
-use Rattle.bpf_object.specs.{Kept.listed, Kept.number_of, Kept.kept_sections, Kept.kept_symbol, Kept.kept_symbols, Written.content_of}
+use Rattle.bpf_object.specs.{Denotes.result_limit, Kept.listed, Kept.number_of, Kept.is_kept_section, Kept.kept_section, Kept.kept_sections, Kept.kept_symbol, Kept.kept_symbols, Written.content_of}
 use Rattle.bpf_object.specs.ObjectParts.{AreParts, bool_number, symtab_of, all_sections, is_file_small, file_by}
 use Rattle.bpf_object.proofs.FileLemmas.{next_of, offset_grows, nothing}
 use Rattle.bpf_object.specs.WrittenSections.{section_value, section_at, no_section}
@@ -63,9 +64,9 @@ too_long xs k limit lt long =
     let above : limit < content_offset (section_at xs) (length xs) = omega (arith, next, grows, long) in
     grind (arith, nat_tests)
 
-pub small_same : (xs : List Written) → (nat_lt (length xs + 1) SHN_LORESERVE
-    && nat_le (content_offset (section_at xs) (length xs) + 64 * (length xs + 1)) FILE_LIMIT) ≡ is_file_small (map section_value xs)
-small_same xs = rw (length-map xs section_value) refl
+pub small_same : (xs : List Written) (limit : ℕ)
+    → nat_le (content_offset (section_at xs) (length xs) + 64 * (length xs + 1)) limit ≡ is_file_small limit (map section_value xs)
+small_same xs limit = rw (length-map xs section_value) refl
 
 pub file_same : (o : Order) (flags : ℕ) (xs : List Written) → file_of o flags (section_at xs) (length xs) ≡ file_by o flags (map section_value xs)
 file_same o flags xs = rw (length-map xs section_value) refl
@@ -75,10 +76,10 @@ pub written_file : (o to : Order) (flags same : ℕ) (xs : List Written) (file :
 written_file o to flags same xs file is a b =
     is ∙ ap (λ (o : Order). file_of o flags (section_at xs) (length xs)) a ∙ ap (λ (n : ℕ). file_of to n (section_at xs) (length xs)) b ∙ file_same to same xs
 
-pub fits_same : (b : List ℕ) (types extension : Option (List ℕ)) → is_file_small (sections_with b types extension) ≡ fits_with b types extension
+fits_same : (b : List ℕ) (types extension : Option (List ℕ)) → is_file_small (result_limit (length b)) (sections_with b types extension) ≡ fits_with b types extension
 fits_same b types extension =
     let sections = sections_with b types extension in
-    ap (λ (n : ℕ). nat_lt (length sections + 1) SHN_LORESERVE && nat_le n FILE_LIMIT)
+    ap (λ (n : ℕ). nat_le n (result_limit (length b)))
     (sym (length-file_of (order_of b) (flags_of b) (λ k. slice_index_or sections k no_section) (length sections)))
 
 -- ---- all sections are those of the definition
@@ -155,36 +156,53 @@ sections_same b types extension names p h has are =
 
 -- ---- the file
 
-pub fitting_is : {A : Type 0} (b : List ℕ) (types extension : Option (List ℕ)) (sections : List WrittenSection) (found : Option (Vec ℕ A))
-    → sections ≡ sections_with b types extension
-    → MatchOption found (is_file_small sections ≡ false) (λ out. (is_file_small sections ≡ true) × (out.items ≡ file_by (order_of b) (flags_of b) sections))
+fits_is : (b : List ℕ) (types extension : Option (List ℕ)) (limit : ℕ) (sections : List WrittenSection) → limit ≡ result_limit (length b)
+    → sections ≡ sections_with b types extension → is_file_small limit sections ≡ fits_with b types extension
+fits_is b types extension limit sections most same =
+    ap (λ (n : ℕ). is_file_small n sections) most ∙ ap (is_file_small (result_limit (length b))) same ∙ fits_same b types extension
+
+pub fitting_is : {A : Type 0} (b : List ℕ) (types extension : Option (List ℕ)) (limit : ℕ) (sections : List WrittenSection) (found : Option (Vec ℕ A))
+    → limit ≡ result_limit (length b) → sections ≡ sections_with b types extension
+    → MatchOption found (is_file_small limit sections ≡ false) (λ out. (is_file_small limit sections ≡ true) × (out.items ≡ file_by (order_of b) (flags_of b) sections))
     → IsFileWith b types extension found
-fitting_is b types extension sections None same h = sym (fits_same b types extension) ∙ ap is_file_small (sym same) ∙ h
-fitting_is b types extension sections (Some out) same h =
-    (sym (fits_same b types extension) ∙ ap is_file_small (sym same) ∙ h.0, h.1 ∙ ap (file_by (order_of b) (flags_of b)) same)
+fitting_is b types extension limit sections None most same h = sym (fits_is b types extension limit sections most same) ∙ h
+fitting_is b types extension limit sections (Some out) most same h =
+    (sym (fits_is b types extension limit sections most same) ∙ h.0, h.1 ∙ ap (file_by (order_of b) (flags_of b)) same)
 
-last_of : (xs : List WrittenSection) (a z d : WrittenSection) → get_or (xs ++ a ∷ z ∷ []) (length xs + 1) d ≡ z
-last_of xs a z d = get_or-append-add xs (a ∷ z ∷ []) 1 d
+-- ---- a file with a long section is long
 
-long_last : (o : Order) (flags limit : ℕ) (xs : List WrittenSection) (a z : WrittenSection) → limit < length z.content
-    → limit < length (file_by o flags (xs ++ a ∷ z ∷ []))
-long_last o flags limit xs a z long =
-    let all = xs ++ a ∷ z ∷ [] in
+long_section : (o : Order) (flags limit : ℕ) (xs ys : List WrittenSection) (w : WrittenSection) → limit < length w.content
+    → limit < length (file_by o flags (xs ++ w ∷ ys))
+long_section o flags limit xs ys w long =
+    let all = xs ++ w ∷ ys in
     let s = λ (k : ℕ). slice_index_or all k no_section in
-    let size = length-append xs (a ∷ z ∷ []) in
-    let lt : length xs + 1 < length all = omega (arith, size) in
-    let there = has_inside (file_of o flags s (length all)) (content_offset s (length xs + 1)) (s (length xs + 1)).content (content_there o flags s (length all) (length xs + 1) lt) in
-    let content : length (s (length xs + 1)).content ≡ length z.content = ap (λ (w : WrittenSection). length w.content) (last_of xs a z no_section) in
+    let size = length-append xs (w ∷ ys) in
+    let lt : length xs < length all = omega (arith, size) in
+    let there = has_inside (file_of o flags s (length all)) (content_offset s (length xs)) (s (length xs)).content (content_there o flags s (length all) (length xs) lt) in
+    let content : length (s (length xs)).content ≡ length w.content = ap (λ (w : WrittenSection). length w.content) (get_or-append_seam xs w ys no_section) in
     omega (arith, there, content, long)
 
-false_after : (x y : Bool) → y ≡ false → (x && y) ≡ false
-false_after true y h = h
-false_after false y h = refl
+pub types_too_long : (b types : List ℕ) (extension : Option (List ℕ)) (limit : ℕ) → limit < length types → limit < length (file_with b (Some types) extension)
+types_too_long b types extension limit long =
+    let strings = strings_with b (Some types) extension in
+    let symtab = symtab_with b (Some types) extension in
+    long_section (order_of b) (flags_of b) limit (map (written_section (order_of b) (offset_of strings) symtab) (kept_sections b))
+    (section_with (offset_of strings) (codes ".BTF.ext") extension ++ last_with b strings symtab) (own_section (offset_of strings (codes ".BTF")) SHT_PROGBITS types 0 0 4 0) long
 
--- if the strings alone are too long, so is the file
-pub strings_too_long : (b : List ℕ) (types extension : Option (List ℕ)) → FILE_LIMIT < length (strings_of (strings_with b types extension))
-    → fits_with b types extension ≡ false
-strings_too_long b types extension long =
+pub extension_too_long : (b types extension : List ℕ) (limit : ℕ) → limit < length extension → limit < length (file_with b (Some types) (Some extension))
+extension_too_long b types extension limit long =
+    let strings = strings_with b (Some types) (Some extension) in
+    let symtab = symtab_with b (Some types) (Some extension) in
+    let kept = map (written_section (order_of b) (offset_of strings) symtab) (kept_sections b) in
+    let first = own_section (offset_of strings (codes ".BTF")) SHT_PROGBITS types 0 0 4 0 in
+    let second = own_section (offset_of strings (codes ".BTF.ext")) SHT_PROGBITS extension 0 0 4 0 in
+    let rest = last_with b strings symtab in
+    subst (λ (t : List WrittenSection). limit < length (file_by (order_of b) (flags_of b) t)) (append_assoc kept (first ∷ []) (second ∷ rest))
+    (long_section (order_of b) (flags_of b) limit (kept ++ first ∷ []) rest second long)
+
+pub strings_too_long : (b : List ℕ) (types extension : Option (List ℕ)) (limit : ℕ) → limit < length (strings_of (strings_with b types extension))
+    → limit < length (file_with b types extension)
+strings_too_long b types extension limit long =
     let strings = strings_with b types extension in
     let symtab = symtab_with b types extension in
     let kept = map (written_section (order_of b) (offset_of strings) symtab) (kept_sections b) in
@@ -192,9 +210,33 @@ strings_too_long b types extension long =
     let first = own_section (offset_of strings (codes ".symtab")) SHT_SYMTAB (flat_map (symbol_bytes (order_of b) (offset_of strings)) (kept_symbols b)) (symtab + 1)
     (first_global (kept_symbols b)) 8 24 in
     let last = own_section (offset_of strings (codes ".strtab")) SHT_STRTAB (strings_of strings) 0 0 1 0 in
-    let same : (kept ++ own) ++ first ∷ last ∷ [] ≡ sections_with b types extension = append_assoc kept own (first ∷ last ∷ []) in
-    let large : FILE_LIMIT < length (file_with b types extension) =
-    subst (λ (t : List WrittenSection). FILE_LIMIT < length (file_by (order_of b) (flags_of b) t)) same
-    (long_last (order_of b) (flags_of b) FILE_LIMIT (kept ++ own) first last long) in
-    let over : nat_le (length (file_with b types extension)) FILE_LIMIT ≡ false = grind (arith, nat_tests) in
-    false_after (nat_lt (length (sections_with b types extension) + 1) SHN_LORESERVE) (nat_le (length (file_with b types extension)) FILE_LIMIT) over
+    let same : ((kept ++ own) ++ first ∷ []) ++ last ∷ [] ≡ sections_with b types extension =
+    append_assoc (kept ++ own) (first ∷ []) (last ∷ []) ∙ append_assoc kept own (first ∷ last ∷ []) in
+    subst (λ (t : List WrittenSection). limit < length (file_by (order_of b) (flags_of b) t)) same
+    (long_section (order_of b) (flags_of b) limit ((kept ++ own) ++ first ∷ []) [] last long)
+
+-- ---- the sections can be numbered
+
+length_section : (place : List ℕ → ℕ) (name : List ℕ) (content : Option (List ℕ)) → length (section_with place name content) ≤ 1
+length_section place name None = omega arith
+length_section place name (Some content) = omega arith
+
+pub few_with : (b : List ℕ) (types extension : Option (List ℕ)) → IsElf b → length (sections_with b types extension) + 1 < 2 ^ 16
+few_with b types extension h =
+    let strings = strings_with b types extension in
+    let symtab = symtab_with b types extension in
+    let one = section_with (offset_of strings) (codes ".BTF") types in
+    let two = section_with (offset_of strings) (codes ".BTF.ext") extension in
+    let kept = written_section (order_of b) (offset_of strings) symtab in
+    omega (
+      arith,
+      length-append (map kept (kept_sections b)) ((one ++ two) ++ last_with b strings symtab),
+      length-map (kept_sections b) kept,
+      length-append (one ++ two) (last_with b strings symtab),
+      length-append one two,
+      length_section (offset_of strings) (codes ".BTF") types,
+      length_section (offset_of strings) (codes ".BTF.ext") extension,
+      length-listed (is_kept_section b) (kept_section b) (count b),
+      number_below (is_kept_section b) (count b),
+      few_sections b h,
+    )

@@ -1,5 +1,5 @@
 -- A written file keeps the rules on its sections, if what was written does.
-use Rattle.std.proofs.Common.{◌≡◌, ℕ, zero, suc, ◌+◌, ◌-◌, ◌<◌, ◌==◌, ◌&&◌, ◌||◌, true, Bool, not, List, [], ◌∷◌, ◌++◌, Option, length, inl, inr, refl, ap, ◌∙◌, arith}
+use Rattle.std.proofs.Common.{◌≡◌, ℕ, zero, suc, ◌+◌, ◌-◌, ◌<◌, ◌≤◌, ◌==◌, ◌&&◌, ◌||◌, true, false, Bool, not, List, [], ◌∷◌, ◌++◌, Option, length, if◌then◌else◌, inl, inr, refl, ap, ◌∙◌, arith}
 use Rattle.std.specs.Prelude.{nat_lt, nat_le, is_some}
 use Rattle.std.proofs.lemmas.Bool.{and_parts, and_from, or_cases, or_left, or_right, Decides.nat_tests}
 use Rattle.bpf_words.specs.declared.Order.{Order}
@@ -9,14 +9,16 @@ use Rattle.bpf_elf.specs.Rules.{AllHold, each}
 use Rattle.bpf_elf.specs.Numbers as number
 use Rattle.bpf_elf.specs.Names.{is_closed, string_at, is_section_name, NAME_LIMIT}
 use Rattle.bpf_elf.specs.Kinds.{SHT_STRTAB, SHT_REL, is_kind, is_single}
-use Rattle.bpf_elf.specs.Sections.{content, kind, name, is_inside, is_again, is_table_name, is_target, section_rules, table_rules, target_rules}
+use Rattle.bpf_elf.specs.Sections.{file_size, content, kind, name, is_inside, is_again, kept_size, kept_total, is_table_name, is_target, section_rules, table_rules, target_rules}
 use Rattle.bpf_elf.specs.ElfRules.{all_section_rules}
 use Rattle.bpf_elf.proofs.RuleLemmas.{both_hold}
 use Rattle.btf_types.specs.Reading.{before_nul}
-use Rattle.bpf_object.specs.File.{WrittenSection, file_of}
-use Rattle.bpf_object.proofs.ReadBackTests.{test_below}
+use Rattle.bpf_object.specs.File.{WrittenSection, contents, file_of}
+use Rattle.bpf_object.proofs.FileLemmas.{offset_next, offset_grows}
+use Rattle.bpf_object.proofs.ReadBackTests.{most_test, test_below}
+use Rattle.bpf_object.proofs.ReadBackLayout.{length-file_of}
 use Rattle.bpf_object.proofs.ReadBackFile.{IsWritable, has_file_header, has_header, has_zero_header}
-use Rattle.bpf_object.proofs.ReadBackSections.{inside_is, zero_inside}
+use Rattle.bpf_object.proofs.ReadBackSections.{file_size_is, inside_is, zero_inside}
 use Rattle.bpf_object.proofs.ReadBackRules.{names_content, table_holds}
 use Rattle.bpf_object.proofs.ReadBackStrings.{string_is_text, ends_from_closed}
 use Rattle.bpf_object.proofs.ReadBackKinds.{written_name, written_kind, is_written_again, all_hold, next, row_type, row_name, kind_is, again_is}
@@ -45,8 +47,16 @@ pub record AreSections (s : ℕ → WrittenSection) (n : ℕ) : Type 0 where
 -- ---- the rules of a section
 
 section_hold : (b : List ℕ) (i : ℕ) → is_inside b i ≡ true → is_section_name (content b (number.names b)) (number.name_off b i) ≡ true
-    → (i == 0 || is_some (kind b i)) ≡ true → not (is_single (kind b i) && is_again b i) ≡ true → AllHold (section_rules b i)
-section_hold b i inside named known once = rw (inside, named, known, once) refl
+    → (i == 0 || is_some (kind b i)) ≡ true → not (is_single (kind b i) && is_again b i) ≡ true → kept_total b (suc i) ≤ length b → AllHold (section_rules b i)
+section_hold b i inside named known once short = rw (inside, named, known, once, most_test (kept_total b (suc i)) (length b) short) refl
+
+-- what is kept of a section isn't more than it has
+kept_most : (b : List ℕ) (i : ℕ) → kept_size b i ≤ file_size b i
+kept_most b i = chosen (is_kind Data (kind b i) || is_kind Relocations (kind b i)) (file_size b i)
+  where
+    chosen : (y : Bool) (n : ℕ) → (if y then n else 0) ≤ n
+    chosen true n = omega arith
+    chosen false n = omega arith
 
 target_hold : (b : List ℕ) (i : ℕ) → (not (number.type b i == SHT_REL) || is_target b i (number.info b i)) ≡ true → AllHold (target_rules b i)
 target_hold b i h = rw h refl
@@ -65,12 +75,24 @@ first_is_name strings closed =
     and_from (nat_lt 0 (length strings)) (nat_le (length (string_at strings 0)) NAME_LIMIT) there (ap (λ (x : List ℕ). nat_le (length x) NAME_LIMIT) (first_is_empty strings closed))
 
 module _ (b : List ℕ) (o : Order) (flags : ℕ) (s : ℕ → WrittenSection) (n : ℕ) (is : b ≡ file_of o flags s n) (w : IsWritable flags s n) where
+  -- the contents of the sections don't overlap, so they are together no longer than the file
+  kept_within : (i : ℕ) → i < n + 1 → kept_total b (suc i) ≤ length (contents s i)
+  kept_within zero lt = omega arith
+  kept_within (suc i) lt =
+      let here : i < n = omega (arith, lt) in
+      let size : file_size b (suc i) ≡ length (s i).content = ap (λ (k : ℕ). file_size b k) (next i) ∙ file_size_is b o flags s n is w i here in
+      omega (arith, kept_within i (omega (arith, here)), kept_most b (suc i), size, offset_next s i)
+
+  kept_short : (i : ℕ) → i < n + 1 → kept_total b (suc i) ≤ length b
+  kept_short i lt =
+      omega (arith, kept_within i lt, offset_grows s i n (omega (arith, lt)), ap length is, length-file_of o flags s n)
+
   zero_holds : AreSections s n → AllHold (section_rules b 0)
   zero_holds a =
       let named : is_section_name (content b (number.names b)) (number.name_off b 0) ≡ true =
       ap (λ (t : List ℕ). is_section_name t (number.name_off b 0)) (names_content b o flags s n is w)
       ∙ ap (λ (k : ℕ). is_section_name (s (n - 1)).content k) (has_zero_header b o flags s n is w).name_offset ∙ first_is_name (s (n - 1)).content a.names_closed in
-      section_hold b 0 (zero_inside b o flags s n is w) named refl refl
+      section_hold b 0 (zero_inside b o flags s n is w) named refl refl (kept_short 0 (omega arith))
 
   row_holds : AreSections s n → (i : ℕ) → i < n → AllHold (section_rules b (suc i))
   row_holds a i lt =
@@ -85,7 +107,7 @@ module _ (b : List ℕ) (o : Order) (flags : ℕ) (s : ℕ → WrittenSection) (
       let once : not (is_single (kind b (suc i)) && is_again b (suc i)) ≡ true =
       ap (λ (k : Option Kind). not (is_single k && is_again b (suc i))) kind_there
       ∙ ap (λ (x : Bool). not (is_single (written_kind s n (suc i)) && x)) (again_is b o flags s n is w (suc i) here) ∙ a.once i lt in
-      section_hold b (suc i) inside named (or_right (suc i == 0) (is_some (kind b (suc i))) known) once
+      section_hold b (suc i) inside named (or_right (suc i == 0) (is_some (kind b (suc i))) known) once (kept_short (suc i) here)
 
   section_holds : AreSections s n → (i : ℕ) → i < n + 1 → AllHold (section_rules b i)
   section_holds a zero lt = zero_holds a

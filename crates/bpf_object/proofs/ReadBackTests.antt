@@ -1,5 +1,5 @@
 -- Tests of numbers that pass.
-use Rattle.std.proofs.Common.{◌≡◌, ℕ, ◌<◌, ◌≤◌, ◌==◌, true, arith}
+use Rattle.std.proofs.Common.{◌≡◌, ℕ, ◌<◌, ◌≤◌, ◌==◌, true, false, arith}
 use Rattle.std.specs.Prelude.{nat_le, nat_lt}
 use Rattle.std.proofs.lemmas.Bool.Decides.{nat_tests}
 
@@ -14,3 +14,6 @@ less_test a b lt = grind (arith, nat_tests)
 
 pub test_below : (a b : ℕ) → nat_lt a b ≡ true → a < b
 test_below a b h = grind (arith, nat_tests)
+
+pub over_test : (a b : ℕ) → b < a → nat_le a b ≡ false
+over_test a b lt = grind (arith, nat_tests)

@@ -87,12 +87,12 @@ module _ (o : Order) (s : SectionWords) (names : NamesByOffset) (types_len table
   pub btf_pushed : (a b out : List ℕ) → a ≡ header o 24 0 types_len types_len table_len → b ≡ a ++ types → out ≡ b ++ strings → out ≡ written_btf o s names
   btf_pushed a b out front more whole = rw (whole, more, front, ← types_is, table_is) refl
 
-  pub btf_short : nat_le (24 + types_len + table_len) 15728640 ≡ true → length (written_btf o s names) ≤ 15728640
-  btf_short is =
-      let le : 24 + types_len + table_len ≤ 15728640 = grind (arith, nat_tests) in
+  pub btf_short : (limit : ℕ) → nat_le (24 + types_len + table_len) limit ≡ true → length (written_btf o s names) ≤ limit
+  btf_short limit is =
+      let le : 24 + types_len + table_len ≤ limit = grind (arith, nat_tests) in
       omega (arith, le, btf_length)
 
-  pub btf_long : nat_le (24 + types_len + table_len) 15728640 ≡ false → 15728640 < length (written_btf o s names)
-  btf_long is =
-      let lt : 15728640 < 24 + types_len + table_len = grind (arith, nat_tests) in
+  pub btf_long : (limit : ℕ) → nat_le (24 + types_len + table_len) limit ≡ false → limit < length (written_btf o s names)
+  btf_long limit is =
+      let lt : limit < 24 + types_len + table_len = grind (arith, nat_tests) in
       omega (arith, lt, btf_length)

@@ -1,13 +1,13 @@
 -- The object that a file denotes.
-use Rattle.std.specs.Prelude.{◌≡◌, ℕ, ◌+◌, ◌<◌, ◌==◌, ◌&&◌, nat_lt, nat_le, Bool, true, List, [], ◌∷◌, Option, Some, None, length, if◌then◌else◌}
+use Rattle.std.specs.Prelude.{◌≡◌, ℕ, ◌+◌, ◌*◌, ◌<◌, ◌==◌, ◌&&◌, min, nat_le, Bool, true, List, [], ◌∷◌, Option, Some, None, length, if◌then◌else◌}
 use Rattle.bpf_words.specs.declared.Order.{Order}
 use Rattle.bpf_elf.specs.declared.kinds.Kind.TheVariants.{Types, Extension}
-use Rattle.bpf_elf.specs.{Rules.rule, Rules.AllHold, ElfRules.IsElf, Header.FILE_LIMIT, Header.SHN_LORESERVE}
+use Rattle.bpf_elf.specs.{Rules.rule, Rules.AllHold, ElfRules.IsElf, Header.FILE_LIMIT}
 use Rattle.bpf_elf.specs.Numbers.{order_of, flags_of, count, header_offset, offset}
 use Rattle.bpf_elf.specs.Sections.{content, section_of}
 use Rattle.btf_types.specs.Sections.{SectionWords, records_in}
 use Rattle.bpf_object.specs.declared.fault.ObjectCause.TheVariants as cause
-use Rattle.bpf_object.specs.Canonical.{btf_bytes, extension_bytes, offset_of, types_strings, has_extension, written_sections, canonical}
+use Rattle.bpf_object.specs.Canonical.{btf_bytes, canonical}
 use Rattle.bpf_object.specs.Extension.{Section}
 use Rattle.bpf_object.specs.Faults.{ObjectRule}
 use Rattle.bpf_object.specs.Groups.{function_groups, relocation_groups}
@@ -70,25 +70,27 @@ object_of b types = record {
   types = types;
 }
 
--- .BTF and .BTF.ext of the canonical file aren't larger than those of a file may be
-abbrev pub both_fit : Order → ObjectTypes → Bool
-both_fit o t =
-    nat_le (length (btf_bytes o t)) 15728640
-    && (if has_extension t then nat_le (length (extension_bytes o (offset_of (types_strings t)) t)) FILE_LIMIT else true)
+-- .BTF of the canonical file isn't larger than that of a file may be
+abbrev pub btf_fits : Order → ObjectTypes → Bool
+btf_fits o t = nat_le (length (btf_bytes o t)) 15728640
 
 abbrev pub types_fit : Object → Bool
-types_fit x = elim x.types [ None ↦ true | Some t ↦ both_fit x.order t ]
+types_fit x = elim x.types [ None ↦ true | Some t ↦ btf_fits x.order t ]
 
--- nor is the canonical file
-abbrev pub is_small : Object → Bool
-is_small x = types_fit x && (nat_lt (length (written_sections x) + 1) SHN_LORESERVE && nat_le (length (canonical x)) FILE_LIMIT)
+-- the most bytes of the canonical file of a file of n bytes: names may share bytes in the file, and don't in the canonical one
+abbrev pub result_limit : ℕ → ℕ
+result_limit n = min FILE_LIMIT (4 * n + 65536)
+
+-- the canonical file of a file of n bytes isn't larger
+abbrev pub is_small : ℕ → Object → Bool
+is_small n x = types_fit x && nat_le (length (canonical x)) (result_limit n)
 
 -- the file keeps all rules, and this is its object
 pub record Denotes (b : List ℕ) (x : Object) : Type 0 where
   pub elf : IsElf b
   pub types : TypesAre b x.types
   pub whole : x ≡ object_of b x.types
-  pub small : is_small x ≡ true
+  pub small : is_small (length b) x ≡ true
 
 -- the bytes are the canonical file of the object that the file denotes
 abbrev pub IsCanonicalFile : List ℕ → List ℕ → Type 0

@@ -1,9 +1,10 @@
 -- The canonical file of what a file keeps, with these bytes of .BTF and .BTF.ext.
-use Rattle.std.specs.Prelude.{◌≡◌, true, false, MatchOption, Vec, ℕ, ◌+◌, ◌&&◌, nat_lt, nat_le, Bool, List, [], ◌∷◌, ◌++◌, Option, Some, None, length, map, codes, slice_index_or, if◌then◌else◌}
+use Rattle.std.specs.Prelude.{◌≡◌, true, false, MatchOption, Vec, ℕ, ◌+◌, nat_le, Bool, List, [], ◌∷◌, ◌++◌, Option, Some, None, length, map, codes, slice_index_or, if◌then◌else◌}
 use Rattle.std.specs.List.{flat_map}
-use Rattle.bpf_elf.specs.{Header.FILE_LIMIT, Header.SHN_LORESERVE, Numbers.order_of, Numbers.flags_of}
+use Rattle.bpf_elf.specs.Numbers.{order_of, flags_of}
 use Rattle.bpf_elf.specs.Kinds.{SHT_PROGBITS, SHT_SYMTAB, SHT_STRTAB}
 use Rattle.bpf_object.specs.Canonical.{btf_bytes, extension_bytes, types_strings, has_extension, strings_of, offset_of, symbol_bytes, first_global, written_section, own_section}
+use Rattle.bpf_object.specs.Denotes.{result_limit}
 use Rattle.bpf_object.specs.File.{WrittenSection, file_of}
 use Rattle.bpf_object.specs.Objects.{ObjectTypes}
 use Rattle.bpf_words.specs.declared.Order.{Order}
@@ -62,10 +63,9 @@ abbrev pub file_with : List ℕ → Option (List ℕ) → Option (List ℕ) → 
 file_with b types extension =
     file_of (order_of b) (flags_of b) (λ k. slice_index_or (sections_with b types extension) k no_section) (length (sections_with b types extension))
 
--- it isn't larger than a file may be
+-- it isn't larger than it may be
 abbrev pub fits_with : List ℕ → Option (List ℕ) → Option (List ℕ) → Bool
-fits_with b types extension =
-    nat_lt (length (sections_with b types extension) + 1) SHN_LORESERVE && nat_le (length (file_with b types extension)) FILE_LIMIT
+fits_with b types extension = nat_le (length (file_with b types extension)) (result_limit (length b))
 
 -- the file, or None if it is larger
 abbrev pub IsFileWith : {A : Type 0} → List ℕ → Option (List ℕ) → Option (List ℕ) → Option (Vec ℕ A) → Type 0

@@ -1,5 +1,5 @@
 -- Which fault an object file has: the first rule that it breaks, by phases in the sequence in which they are checked.
-use Rattle.std.specs.Prelude.{◌≡◌, ℕ, ◌<◌, Bool, false, ⊤, List, Option}
+use Rattle.std.specs.Prelude.{◌≡◌, ℕ, ◌<◌, Bool, false, ⊤, List, Option, length}
 use Rattle.bpf_elf.specs.declared.fault.ElfFault.{ElfFault}
 use Rattle.bpf_elf.specs.{Rules.IsFirstFault as IsFirstElfFault, ElfRules.IsElf, ElfRules.elf_rules}
 use Rattle.btf_types.specs.Sections.{SectionWords}
@@ -48,7 +48,7 @@ pub record IsFaultOfResult (b : List ℕ) (fault : ObjectFault) : Type 0 where
   pub held : Option ObjectTypes
   pub elf : IsElf b
   pub types : TypesAre b held
-  pub large : is_small (object_of b held) ≡ false
+  pub large : is_small (length b) (object_of b held) ≡ false
   pub result : IsTooLarge fault
 
 -- each phase is reached only if there is no fault of an earlier one

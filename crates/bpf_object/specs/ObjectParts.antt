@@ -1,5 +1,5 @@
 -- The contents that are written anew.
-use Rattle.std.specs.Prelude.{◌≡◌, ℕ, ◌+◌, ◌*◌, ◌&&◌, nat_lt, nat_le, slice_index_or, Bool, Option, is_some, List, [], ◌∷◌, ◌++◌, length, codes, if◌then◌else◌}
+use Rattle.std.specs.Prelude.{◌≡◌, ℕ, ◌+◌, ◌*◌, nat_le, slice_index_or, Bool, Option, is_some, List, [], ◌∷◌, ◌++◌, length, codes, if◌then◌else◌}
 use Rattle.bpf_elf.specs.{Numbers.count, Symbols.symbol_count}
 use Rattle.bpf_canon.specs.btf.strings.NamesByOffset.{NamesByOffset}
 use Rattle.bpf_object.specs.declared.object_writer.Parts.{Parts}
@@ -12,7 +12,6 @@ use Rattle.bpf_object.specs.Canonical.{own_section}
 use Rattle.bpf_object.specs.File.{WrittenSection, content_offset, file_of}
 use Rattle.bpf_words.specs.declared.Order.{Order}
 use Rattle.bpf_object.specs.WrittenSections.{no_section}
-use Rattle.bpf_elf.specs.Header.{FILE_LIMIT, SHN_LORESERVE}
 use Rattle.bpf_object.specs.Tables.{tables_bytes}
 
 pub record AreParts {A : Type 0} (b : List ℕ) (names : NamesByOffset) (p : Parts A) : Type 0 where
@@ -41,12 +40,12 @@ all_sections b new_offset types extension symbols strings =
     ++ ((section_with new_offset (codes ".BTF") types ++ section_with new_offset (codes ".BTF.ext") extension)
     ++ last_sections b new_offset (symtab_of b types extension) symbols strings)
 
--- a file of these sections isn't larger than a file may be: the content of the last one is followed by the section header table
+-- a file of these sections has at most so many bytes: the content of the last one is followed by the section header table
 abbrev pub offset_after : List WrittenSection → ℕ
 offset_after sections = content_offset (λ k. slice_index_or sections k no_section) (length sections)
 
-abbrev pub is_file_small : List WrittenSection → Bool
-is_file_small sections = nat_lt (length sections + 1) SHN_LORESERVE && nat_le (offset_after sections + 64 * (length sections + 1)) FILE_LIMIT
+abbrev pub is_file_small : ℕ → List WrittenSection → Bool
+is_file_small limit sections = nat_le (offset_after sections + 64 * (length sections + 1)) limit
 
 abbrev pub file_by : Order → ℕ → List WrittenSection → List ℕ
 file_by o flags sections = file_of o flags (λ k. slice_index_or sections k no_section) (length sections)

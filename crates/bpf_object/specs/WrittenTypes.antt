@@ -1,5 +1,5 @@
 -- .BTF and .BTF.ext of a canonical file, from those that are read.
-use Rattle.std.specs.Prelude.{◌≡◌, ◌⊎◌, ℕ, true, List, [], ◌++◌, Some}
+use Rattle.std.specs.Prelude.{◌≡◌, ◌⊎◌, ℕ, ◌<◌, min, true, List, [], ◌++◌, Some, length}
 use Rattle.std.specs.List.{All}
 use Rattle.bpf_words.specs.declared.Order.{Order}
 use Rattle.btf_types.specs.Sections.{SectionWords, records_in}
@@ -7,8 +7,8 @@ use Rattle.bpf_canon.specs.btf.strings.{FirstUses.noted_all, NamesByOffset.Names
 use Rattle.bpf_canon.specs.btf.write.NameOffsets.{all_offsets}
 use Rattle.bpf_object.specs.declared.{extension.Part.Part, source.Source.Source, types_writer.WrittenTypes.WrittenTypes}
 use Rattle.bpf_object.specs.declared.extension.Part.TheVariants.{Functions, Relocations}
-use Rattle.bpf_object.specs.Canonical.{types_bytes, btf_of, btf_bytes}
-use Rattle.bpf_object.specs.Denotes.{both_fit}
+use Rattle.bpf_object.specs.Canonical.{types_bytes, types_strings, offset_of, btf_of, btf_bytes, extension_bytes, has_extension}
+use Rattle.bpf_object.specs.Denotes.{btf_fits}
 use Rattle.bpf_object.specs.Extension.{Section, groups}
 use Rattle.bpf_object.specs.FileWith.{extension_content}
 use Rattle.bpf_object.specs.Objects.{ObjectTypes}
@@ -39,8 +39,13 @@ both_names s x = record { strings = s.strings; offsets = noted_all [] (both_offs
 abbrev pub written_btf : Order → SectionWords → NamesByOffset → List ℕ
 written_btf o s names = btf_of o (types_bytes o (text_offset names) (records_in s)) (distinct_table (texts_by_offset names))
 
--- both sections of these types, which aren't larger than those of a file may be
+-- .BTF of these types is longer than one may be, or one of both sections than the whole file may be
+abbrev pub AreTooLong : ℕ → Order → ObjectTypes → Type 0
+AreTooLong limit o t =
+    (min 15728640 limit < length (btf_bytes o t)) ⊎ ((has_extension t ≡ true) × (limit < length (extension_bytes o (offset_of (types_strings t)) t)))
+
+-- both sections of these types; .BTF isn't larger than that of a file may be
 pub record AreWritten {A : Type 0} (o : Order) (t : ObjectTypes) (w : WrittenTypes A) : Type 0 where
-  pub fit : both_fit o t ≡ true
+  pub fit : btf_fits o t ≡ true
   pub types : w.types.items ≡ btf_bytes o t
   pub extension : items_of w.extension ≡ extension_content o (Some t)

@@ -26,7 +26,7 @@ ghost use Rattle.bpf_object.specs.Written.{content_of, items_of};
 
 use crate::extension::check_source;
 use crate::fault::{ObjectCause, ObjectError, ObjectFault, require};
-use crate::object_writer::write_object;
+use crate::object_writer::{result_limit, write_object};
 use crate::source::Source;
 use crate::types::check_types;
 use crate::types_writer::write_types;
@@ -34,7 +34,7 @@ use bpf_elf::{Elf, Kind};
 use btf_types::{CheckedFile, FileSections};
 use std::alloc::Allocator;
 
-/// The fault of a file whose canonical file, or .BTF or .BTF.ext of it, is larger than a file may be.
+/// The fault of a file whose canonical file, or .BTF of it, is too large.
 const TOO_LARGE: ObjectFault = ObjectFault {
     pos: 0,
     cause: ObjectCause::ResultTooLarge,
@@ -151,7 +151,7 @@ fn write_typed<A: Allocator + Copy>(
     requires strings { x.strings.now ≡ sections.now.strings }
     ensures { MatchResult result (λ out. IsCanonicalFile elf.now out.items) (Fails elf.now) }
 {
-    let Some(written) = write_types(alloc, sections, x)? else {
+    let Some(written) = write_types(alloc, sections, x, result_limit(elf))? else {
         return Err(ObjectError::Fault(TOO_LARGE));
     };
     let extension = content(&written.extension);
@@ -191,9 +191,9 @@ fn canon_file<A: Allocator + Copy>(alloc: A, bytes: &[u8]) -> Result<Vec<u8, A>,
 /// # Errors
 ///
 /// `Fault` with the first rule that the file breaks: those of the ELF file, then those of .BTF, then
-/// those of .BTF.ext, and then [`ResultTooLarge`](ObjectCause::ResultTooLarge) if the canonical
-/// file, or its .BTF or .BTF.ext, is larger than that of a file may be. `Memory` if memory can't be
-/// allocated.
+/// those of .BTF.ext, and then [`ResultTooLarge`](ObjectCause::ResultTooLarge) if the canonical file
+/// is larger than a file may be, or than four times the file and 64 KiB, or its .BTF is larger than
+/// that of a file may be. `Memory` if memory can't be allocated.
 pub fn canon_object<A: Allocator + Copy>(alloc: A, bytes: &[u8]) -> Result<Vec<u8, A>, ObjectError>
     ensures found { IfOk result (λ canon. (x : Object)
         × (Denotes bytes.now x × (canon.items ≡ canonical x))) }

@@ -13,7 +13,6 @@ use crate::extension::Part;
 use crate::extension_writer::push_part;
 use crate::source::Source;
 use bpf_canon::DistinctOffsets;
-use bpf_elf::FILE_LIMIT;
 use bpf_words::{Order, push_words, push16};
 use std::alloc::{AllocError, Allocator};
 
@@ -35,17 +34,18 @@ fn push_header<A: Allocator>(
     push_words(out, order, &[functions + lines, relocations])
 }
 
-/// Whether parts of these lengths have at most 64 MiB together with a header.
-fn fits(functions: usize, lines: usize, relocations: usize) -> bool
-    ensures { result ≡ nat_le (32 + (functions + lines + relocations)) spec_limit }
+/// Whether parts of these lengths have at most `limit` bytes together with a header.
+fn fits(functions: usize, lines: usize, relocations: usize, limit: usize) -> bool
+    requires { 32 ≤ limit }
+    ensures { result ≡ nat_le (32 + (functions + lines + relocations)) limit }
 {
-    let capacity = FILE_LIMIT - 32;
+    let capacity = limit - 32;
     functions <= capacity
         && lines <= capacity - functions
         && relocations <= capacity - functions - lines
 }
 
-/// The section with these parts, or `None` if it has more than 64 MiB.
+/// The section with these parts, or `None` if it has more than `limit` bytes.
 #[tactic(auto, using(crate::proofs::WrittenExtension::length_extension))]
 fn extension_of<A: Allocator>(
     alloc: A,
@@ -53,12 +53,14 @@ fn extension_of<A: Allocator>(
     functions: &[u8],
     lines: &[u8],
     relocations: &[u8],
+    limit: usize,
 ) -> Result<Option<Vec<u8, A>>, AllocError>
+    requires limit { (32 ≤ limit) × (limit ≤ spec_limit) }
     ensures { let whole = spec_extension order functions.now lines.now relocations.now in
-        IfOk result (λ found. MatchOption found (spec_limit < length whole)
-        (λ out. (length whole ≤ spec_limit) × (out.items ≡ whole))) }
+        IfOk result (λ found. MatchOption found (limit < length whole)
+        (λ out. out.items ≡ whole)) }
 {
-    if !fits(functions.len(), lines.len(), relocations.len()) {
+    if !fits(functions.len(), lines.len(), relocations.len(), limit) {
         return Ok(None);
     }
     let mut out = Vec::new(alloc);
@@ -93,25 +95,34 @@ fn part_of<A: Allocator, B: Allocator>(
     Ok(out)
 }
 
-/// The section with these groups, or `None` if it has more than 64 MiB.
+/// The section with these groups, or `None` if it has more than `limit` bytes.
 pub(crate) fn write_extension<A: Allocator + Copy>(
     alloc: A,
     names: &DistinctOffsets<'_, A>,
     x: Source<'_>,
     functions: &[usize],
     relocations: &[usize],
+    limit: usize,
 ) -> Result<Option<Vec<u8, A>>, AllocError>
+    requires limit { (32 ≤ limit) × (limit ≤ spec_limit) }
     requires functions { All (HasGroup x Functions) functions.now }
     requires relocations { All (HasGroup x Relocations) relocations.now }
     requires function_names { All (HasStrings names.now x Functions) functions.now }
     requires relocation_names { All (HasStrings names.now x Relocations) relocations.now }
     ensures { let whole = spec.written_extension (section x.entry) (text_offset names.now)
         functions.now relocations.now in
-        IfOk result (λ found. MatchOption found (spec_limit < length whole)
-        (λ out. (length whole ≤ spec_limit) × (out.items ≡ whole))) }
+        IfOk result (λ found. MatchOption found (limit < length whole)
+        (λ out. out.items ≡ whole)) }
 {
     let function_part = part_of(alloc, names, x, Part::Functions, functions)?;
     let line_part = part_of(alloc, names, x, Part::Lines, functions)?;
     let relocation_part = part_of(alloc, names, x, Part::Relocations, relocations)?;
-    extension_of(alloc, x.order, &function_part, &line_part, &relocation_part)
+    extension_of(
+        alloc,
+        x.order,
+        &function_part,
+        &line_part,
+        &relocation_part,
+        limit,
+    )
 }

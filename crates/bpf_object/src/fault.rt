@@ -72,7 +72,7 @@ pub enum ObjectCause {
     #[error("functions and source lines of .BTF.ext don't match")]
     ExtensionLines,
     /// Reported at 0.
-    #[error("the canonical file has more than 64 MiB, or its .BTF more than 15 MiB")]
+    #[error("the canonical file has more than 64 MiB, or more than four times the file and 64 KiB, or its .BTF more than 15 MiB")]
     ResultTooLarge,
 }
 

@@ -1,14 +1,15 @@
 //! The canonical file of what a file keeps, with these bytes of .BTF and .BTF.ext.
 
-ghost use Rattle.std.specs.Prelude.{◌≡◌, ◌≢◌, ◌+◌, ◌*◌, ◌++◌, ◌∷◌, ◌<◌, ◌≤◌, ◌^◌, ◌&&◌, nat_lt, nat_le, [], true, false, map, length, is_some, IfOk, MatchOption, OnOk};
+ghost use Rattle.std.specs.Prelude.{◌≡◌, ◌≢◌, ◌+◌, ◌*◌, ◌++◌, ◌∷◌, ◌<◌, ◌≤◌, ◌^◌, nat_le, [], true, false, map, length, is_some, IfOk, MatchOption, OnOk};
 ghost use Rattle.std.specs.List.{Contains};
 ghost use Rattle.bpf_elf.specs.ElfRules.{IsElf};
-ghost use Rattle.bpf_elf.specs.Header.{FILE_LIMIT as spec_limit, SHN_LORESERVE as spec_reserved};
+ghost use Rattle.bpf_elf.specs.Header.{FILE_LIMIT as spec_limit};
 ghost use Rattle.bpf_elf.specs.Numbers.{count, order_of, flags_of};
 ghost use Rattle.bpf_elf.specs.Symbols.{symbol_count};
 ghost use Rattle.bpf_canon.specs.btf.strings.{FirstUses.noted_all, NamesByOffset.texts_by_offset};
 ghost use Rattle.bpf_canon.specs.btf.strings.DistinctNames.{distinct_table};
 ghost use Rattle.bpf_object.specs.Canonical.{own_section as spec_own};
+ghost use Rattle.bpf_object.specs.Denotes.{result_limit as spec_result_limit};
 ghost use Rattle.bpf_object.specs.File.{content_offset};
 ghost use Rattle.bpf_object.specs.FileStrings as strings;
 ghost use Rattle.bpf_object.specs.FileWith as spec;
@@ -38,9 +39,6 @@ const SHT_SYMTAB: u32 = 2;
 
 const SHT_STRTAB: u32 = 3;
 
-/// SHN_LORESERVE: the first index that isn't one of a section.
-const SHN_LORESERVE: usize = 0xff00;
-
 /// The contents that are written anew, but for .BTF, .BTF.ext and the string table.
 #[derive(Drop)]
 pub(crate) struct Parts<A: Allocator> {
@@ -50,6 +48,16 @@ pub(crate) struct Parts<A: Allocator> {
     rows: Vec<u8, A>,
     /// The symbols.
     symbols: Vec<u8, A>,
+}
+
+/// The most bytes of the canonical file: 64 MiB, and four times the file and 64 KiB. Names may share
+/// bytes in the file, so that a table of them without shared bytes could be as long as the square.
+pub(crate) fn result_limit(elf: &Elf<'_>) -> usize
+    ensures value { result ≡ spec_result_limit (length elf.now) }
+    ensures small { result ≤ spec_limit }
+    ensures some { 65536 ≤ result }
+{
+    FILE_LIMIT.min(4 * elf.bytes().len() + 65_536)
 }
 
 /// The rows of all tables of relocations.
@@ -201,16 +209,15 @@ fn push_all<'a, A: Allocator, B: Allocator, C: Allocator>(
     Ok(())
 }
 
-/// Whether a file of these sections isn't larger than a file may be.
-fn is_small(sections: &[WrittenSection<'_>]) -> bool
-    ensures { result ≡ (nat_lt (length sections.now + 1) spec_reserved
-        && nat_le (content_offset (section_at sections.now) (length sections.now)
-        + 64 * (length sections.now + 1)) spec_limit) }
+/// Whether a file of these sections has at most `limit` bytes.
+fn is_small(sections: &[WrittenSection<'_>], limit: usize) -> bool
+    requires few { length sections.now + 1 < 2 ^ 16 }
+    requires limit { limit ≤ spec_limit }
+    ensures { result ≡ nat_le (content_offset (section_at sections.now) (length sections.now)
+        + 64 * (length sections.now + 1)) limit }
 {
-    if sections.len() + 1 >= SHN_LORESERVE {
-        return false;
-    }
-    fits(sections, (FILE_LIMIT - 64 * (sections.len() + 1)) as u64)
+    let headers = 64 * (sections.len() + 1);
+    64 + headers <= limit && fits(sections, (limit - headers) as u64)
 }
 
 /// Whether the section header table of these sections begins at most at `limit`.
@@ -233,19 +240,22 @@ fn fits(sections: &[WrittenSection<'_>], limit: u64) -> bool
     true
 }
 
-/// The file of these sections, or `None` if it is larger than a file may be.
+/// The file of these sections, or `None` if it has more than `limit` bytes.
 fn write_fitting<A: Allocator>(
     alloc: A,
     elf: &Elf<'_>,
     sections: &[WrittenSection<'_>],
+    limit: usize,
 ) -> Result<Option<Vec<u8, A>>, AllocError>
+    requires few { length sections.now + 1 < 2 ^ 16 }
+    requires limit { limit ≤ spec_limit }
     ensures { IfOk result (λ found. MatchOption found
-        (is_file_small (map section_value sections.now) ≡ false)
-        (λ out. (is_file_small (map section_value sections.now) ≡ true)
+        (is_file_small limit (map section_value sections.now) ≡ false)
+        (λ out. (is_file_small limit (map section_value sections.now) ≡ true)
         × (out.items
         ≡ file_by (order_of elf.now) (flags_of elf.now) (map section_value sections.now)))) }
 {
-    if !is_small(sections) {
+    if !is_small(sections, limit) {
         return Ok(None);
     }
     let file = write_file(alloc, elf.order(), elf.flags(), sections)?;
@@ -285,28 +295,30 @@ fn sections_of<'a, A: Allocator + Copy>(
     Ok(sections)
 }
 
-/// The offsets of the strings in .strtab, or `None` if that is larger than a file may be.
+/// The offsets of the strings in .strtab, or `None` if that has more than `limit` bytes.
 fn find_offsets<'s, A: Allocator + Copy>(
     alloc: A,
     elf: &Elf<'_>,
     all: &'s [u8],
     has_types: bool,
     has_extension: bool,
+    limit: usize,
 ) -> Result<Option<DistinctOffsets<'s, A>>, AllocError>
     requires rules { IsElf elf.now }
     requires strings { all.now ≡ strings.all_strings elf.now }
+    requires limit { limit ≤ spec_limit }
     ensures { IfOk result (λ found. MatchOption found
-        (spec_limit < length (strings.file_table elf.now has_types has_extension))
+        (limit < length (strings.file_table elf.now has_types has_extension))
         (λ p. (p.strings ≡ strings.all_strings elf.now)
         × (p.offsets ≡ noted_all [] (strings.file_offsets elf.now has_types has_extension)))) }
 {
     let mut uses = FirstUses::new(alloc, all)?;
     note_strings(&mut uses, elf, has_types, has_extension)?;
-    let found = DistinctOffsets::find(alloc, uses, FILE_LIMIT as u32)?;
+    let found = DistinctOffsets::find(alloc, uses, limit as u32)?;
     Ok(found)
 }
 
-/// The file, or `None` if it is larger than a file may be.
+/// The file, or `None` if it has more than [`result_limit`] bytes, which is known before it is written.
 pub(crate) fn write_object<A: Allocator + Copy>(
     alloc: A,
     elf: &Elf<'_>,
@@ -316,8 +328,16 @@ pub(crate) fn write_object<A: Allocator + Copy>(
     ensures { IfOk result
         (IsFileWith elf.now (content_of types.entry) (content_of extension.entry)) }
 {
+    let limit = result_limit(elf);
     let strings = all_strings(alloc, elf)?;
-    let found = find_offsets(alloc, elf, &strings, types.is_some(), extension.is_some())?;
+    let found = find_offsets(
+        alloc,
+        elf,
+        &strings,
+        types.is_some(),
+        extension.is_some(),
+        limit,
+    )?;
     let Some(names) = found else {
         return Ok(None);
     };
@@ -326,6 +346,6 @@ pub(crate) fn write_object<A: Allocator + Copy>(
     let sections = sections_of(alloc, &*elf, names, &parts, &types, &extension, &mut table)?;
     // The table has the strings of the file, and the memory of this copy is for the file itself.
     drop(strings);
-    let file = write_fitting(alloc, elf, &sections)?;
+    let file = write_fitting(alloc, elf, &sections, limit)?;
     Ok(file)
 }

@@ -3,15 +3,16 @@
 //!
 //! The strings of both are in one table: the names of the types, then the strings of .BTF.ext.
 
-ghost use Rattle.std.specs.Prelude.{◌≡◌, ◌+◌, ◌<◌, ◌≤◌, ◌==◌, ◌&&◌, nat_le, false, not, length};
+ghost use Rattle.std.specs.Prelude.{◌≡◌, ◌+◌, ◌<◌, ◌≤◌, ◌==◌, ◌&&◌, nat_le, not, length};
 ghost use Rattle.std.specs.Prelude.{IfOk, MatchOption, OnOk};
 ghost use Rattle.std.specs.List.{All, Contains};
+ghost use Rattle.bpf_elf.specs.Header.{FILE_LIMIT};
 ghost use Rattle.btf_types.specs.tables.TableInvariant.{IsTable};
 ghost use Rattle.bpf_canon.specs.btf.strings.{FirstUses.noted_all, NamesByOffset.texts_by_offset};
 ghost use Rattle.bpf_canon.specs.btf.strings.DistinctNames.{distinct_table};
 ghost use Rattle.bpf_canon.specs.btf.write.NameOffsets.{all_offsets};
 ghost use Rattle.bpf_object.specs.declared.extension.Part.TheVariants.{Functions, Relocations};
-ghost use Rattle.bpf_object.specs.Denotes.{object_types, both_fit};
+ghost use Rattle.bpf_object.specs.Denotes.{object_types};
 ghost use Rattle.bpf_object.specs.Sources.{section};
 ghost use Rattle.bpf_object.specs.WrittenTypes as spec;
 
@@ -67,51 +68,58 @@ fn note_both<A: Allocator + Copy>(
     note_groups(uses, x, Part::Relocations, relocations)
 }
 
-/// The offsets of the strings of both sections, or `None` if their table has more than 15 MiB.
+/// The offsets of the strings of both sections, or `None` if their table has more than `limit`
+/// bytes.
 fn find_names<'t, A: Allocator + Copy>(
     alloc: A,
     sections: &FileSections<'t>,
     x: Source<'_>,
     functions: &[usize],
     relocations: &[usize],
+    limit: usize,
 ) -> Result<Option<DistinctOffsets<'t, A>>, AllocError>
+    requires limit { limit ≤ 15728640 }
     requires functions { spec.AreGroups x Functions functions.now }
     requires relocations { spec.AreGroups x Relocations relocations.now }
     requires strings { x.strings.now ≡ sections.now.strings }
     ensures offsets { let names = spec.both_names sections.now (section x.entry) in
         IfOk result (λ found. MatchOption found
-        (15728640 < length (distinct_table (texts_by_offset names))) (λ found. found ≡ names)) }
+        (limit < length (distinct_table (texts_by_offset names))) (λ found. found ≡ names)) }
     ensures table { IsTable sections.now }
 {
     let mut uses = FirstUses::new(alloc, sections.strings())?;
     note_both(&mut uses, sections, x, functions, relocations)?;
-    DistinctOffsets::find(alloc, uses, TYPES_LIMIT as u32)
+    DistinctOffsets::find(alloc, uses, limit as u32)
 }
 
-/// Whether records and a string table of these lengths have at most 15 MiB together with a header.
-fn is_short(types_len: usize, table_len: usize) -> bool
-    ensures { result ≡ nat_le (24 + types_len + table_len) 15728640 }
+/// Whether records and a string table of these lengths have at most `limit` bytes together with a
+/// header.
+fn is_short(types_len: usize, table_len: usize, limit: usize) -> bool
+    requires { 24 ≤ limit }
+    ensures { result ≡ nat_le (24 + types_len + table_len) limit }
 {
-    let capacity = TYPES_LIMIT - 24;
+    let capacity = limit - 24;
     types_len <= capacity && table_len <= capacity - types_len
 }
 
-/// The section .BTF with the names at these offsets, or `None` if it has more than 15 MiB.
+/// The section .BTF with the names at these offsets, or `None` if it has more than `limit` bytes.
 fn write_btf<A: Allocator + Copy>(
     alloc: A,
     order: Order,
     sections: &FileSections<'_>,
     names: &DistinctOffsets<'_, A>,
+    limit: usize,
 ) -> Result<Option<Vec<u8, A>>, AllocError>
+    requires limit { (24 ≤ limit) × (limit ≤ 15728640) }
     requires strings { names.now.strings ≡ sections.now.strings }
     requires noted { All (Contains names.now.offsets) (all_offsets sections.now.frames) }
     ensures { let whole = spec.written_btf order sections.now names.now in
-        IfOk result (λ found. MatchOption found (15728640 < length whole)
-        (λ out. (length whole ≤ 15728640) × (out.items ≡ whole))) }
+        IfOk result (λ found. MatchOption found (limit < length whole)
+        (λ out. (length whole ≤ limit) × (out.items ≡ whole))) }
 {
     let types_len = sections.types().len();
     let table = names.table();
-    if !is_short(types_len, table.len()) {
+    if !is_short(types_len, table.len(), limit) {
         return Ok(None);
     }
     let mut out = Vec::new(alloc);
@@ -128,7 +136,8 @@ fn has_extension(functions: &[usize], relocations: &[usize]) -> bool
     !(functions.is_empty() && relocations.is_empty())
 }
 
-/// Both sections with these strings, or `None` if one of them is too large.
+/// Both sections with these strings, or `None` if .BTF has more than 15 MiB, or one of them more than
+/// `limit` bytes.
 fn write_both<A: Allocator + Copy>(
     alloc: A,
     sections: &FileSections<'_>,
@@ -136,17 +145,19 @@ fn write_both<A: Allocator + Copy>(
     names: &DistinctOffsets<'_, A>,
     functions: &[usize],
     relocations: &[usize],
+    limit: usize,
 ) -> Result<Option<WrittenTypes<A>>, AllocError>
+    requires limit { (65536 ≤ limit) × (limit ≤ FILE_LIMIT) }
     requires functions { spec.AreGroups x Functions functions.now }
     requires relocations { spec.AreGroups x Relocations relocations.now }
     requires strings { x.strings.now ≡ sections.now.strings }
     requires table { IsTable sections.now }
     requires names { names.now ≡ spec.both_names sections.now (section x) }
     ensures { let t = object_types sections.now (section x.entry) in
-        IfOk result (λ found. MatchOption found (both_fit x.entry.order t ≡ false)
+        IfOk result (λ found. MatchOption found (spec.AreTooLong limit x.entry.order t)
         (spec.AreWritten x.entry.order t)) }
 {
-    let Some(types) = write_btf(alloc, x.order, sections, names)? else {
+    let Some(types) = write_btf(alloc, x.order, sections, names, TYPES_LIMIT.min(limit))? else {
         return Ok(None);
     };
     if !has_extension(functions, relocations) {
@@ -155,7 +166,7 @@ fn write_both<A: Allocator + Copy>(
             extension: None,
         }));
     }
-    let Some(extension) = write_extension(alloc, names, x, functions, relocations)? else {
+    let Some(extension) = write_extension(alloc, names, x, functions, relocations, limit)? else {
         return Ok(None);
     };
     Ok(Some(WrittenTypes {
@@ -164,25 +175,29 @@ fn write_both<A: Allocator + Copy>(
     }))
 }
 
-/// The sections .BTF and .BTF.ext of a canonical file, or `None` if .BTF has more than 15 MiB or
-/// .BTF.ext more than 64 MiB.
+/// The sections .BTF and .BTF.ext of a canonical file, or `None` if .BTF has more than 15 MiB, or one
+/// of them more than `limit` bytes.
 ///
-/// `sections` are the types of the file. `x` is its section .BTF.ext, or empty if it has none.
+/// `sections` are the types of the file. `x` is its section .BTF.ext, or empty if it has none. `limit`
+/// is the most bytes of the canonical file.
 pub(crate) fn write_types<A: Allocator + Copy>(
     alloc: A,
     sections: &FileSections<'_>,
     x: Source<'_>,
+    limit: usize,
 ) -> Result<Option<WrittenTypes<A>>, AllocError>
+    requires limit { (65536 ≤ limit) × (limit ≤ FILE_LIMIT) }
     requires extension { spec.IsRead x }
     requires strings { x.strings.now ≡ sections.now.strings }
     ensures { let t = object_types sections.now (section x.entry) in
-        IfOk result (λ found. MatchOption found (both_fit x.entry.order t ≡ false)
+        IfOk result (λ found. MatchOption found (spec.AreTooLong limit x.entry.order t)
         (spec.AreWritten x.entry.order t)) }
 {
     let functions = groups_in(alloc, x, Part::Functions)?;
     let relocations = groups_in(alloc, x, Part::Relocations)?;
-    let Some(names) = find_names(alloc, sections, x, &functions, &relocations)? else {
+    let short = TYPES_LIMIT.min(limit);
+    let Some(names) = find_names(alloc, sections, x, &functions, &relocations, short)? else {
         return Ok(None);
     };
-    write_both(alloc, sections, x, &names, &functions, &relocations)
+    write_both(alloc, sections, x, &names, &functions, &relocations, limit)
 }

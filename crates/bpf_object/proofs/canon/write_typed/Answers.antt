@@ -8,7 +8,8 @@ returns-in_default g c =
     let keeps : Keeps c.args.elf.now c.args.sections.now =
     record { elf = c.requires.elf; there = c.requires.there; types = c.requires.types; extension = c.requires.extension } in
     let over = rw c.in_default.is at c.in_ok-written.ensures in
-    typed_large c.args.elf.now c.args.sections.now (section c.args.x) _ keeps c.requires.own over (record { pos = refl; cause = refl })
+    typed_large c.args.elf.now c.args.sections.now (section c.args.x) _ c.result_limit.result keeps c.requires.own c.result_limit.ensures.value over
+    (record { pos = refl; cause = refl })
 
 pub returns : goal.returns
 returns g c =

@@ -1,11 +1,11 @@
-use Rattle.std.proofs.Common.{◌≡◌, ◌<◌, ◌≤◌, ℕ, List, length, sym, subst, ◌∙◌}
+use Rattle.std.proofs.Common.{◌≡◌, ◌<◌, ◌≤◌, ℕ, List, length, inl, sym, subst, ◌∙◌, arith}
 use Rattle.std.specs.List.{All}
 use Rattle.bpf_object.specs.declared.extension.Part.TheVariants.{Functions, Relocations}
 use Rattle.bpf_object.specs.NotedStrings.{HasStrings, text_offset}
 use Rattle.bpf_object.specs.Sources.{section}
 use Rattle.bpf_object.specs.WrittenGroups.{written_extension}
 use Rattle.bpf_object.specs.WrittenTypes.{written_btf}
-use Rattle.bpf_object.proofs.FitLemmas.{names_there, function_strings_there, relocation_strings_there, no_btf, no_extension, without_extension, with_extension}
+use Rattle.bpf_object.proofs.FitLemmas.{names_there, function_strings_there, relocation_strings_there, long_btf, long_extension, without_extension, with_extension}
 use Rattle.bpf_object.proofs.types_writer.write_both.Goals as goal
 
 pub write_btf-requires-clause-noted : goal.write_btf-requires-clause-noted
@@ -14,16 +14,17 @@ write_btf-requires-clause-noted g c = names_there c.args.sections.now c.args.x c
 pub returns-in_default : goal.returns-in_default
 returns-in_default g c =
     let s = c.args.sections.now in
-    let long : 15728640 < length (written_btf c.args.x.order s c.args.names.now) = rw c.in_default.is at c.in_ok-types.ensures in
-    no_btf s (section c.args.x) (sym c.requires.strings) c.requires.table c.args.names.now c.requires.names long
+    let long : c.min.result < length (written_btf c.args.x.order s c.args.names.now) = rw c.in_default.is at c.in_ok-types.ensures in
+    inl (rw c.min.ensures at (long_btf s (section c.args.x) (sym c.requires.strings) c.requires.table c.args.names.now c.requires.names c.min.result long))
 
 pub returns-then-not-has_extension : goal.returns-then-not-has_extension
 returns-then-not-has_extension g c =
     let s = c.args.sections.now in
-    let btf : (length (written_btf c.args.x.order s c.args.names.now) ≤ 15728640) × (c.in-Some.types.items ≡ written_btf c.args.x.order s c.args.names.now) =
+    let btf : (length (written_btf c.args.x.order s c.args.names.now) ≤ c.min.result) × (c.in-Some.types.items ≡ written_btf c.args.x.order s c.args.names.now) =
     rw c.in-Some.is at c.in_ok-types.ensures in
     without_extension s (section c.args.x) (sym c.requires.strings) c.requires.table c.args.names.now c.requires.names c.args.functions.now c.args.relocations.now
-    c.requires.functions.all c.requires.relocations.all c.in-Some.types (sym c.has_extension.ensures ∙ c.if-not-has_extension.true) btf.0 btf.1
+    c.requires.functions.all c.requires.relocations.all c.in-Some.types (sym c.has_extension.ensures ∙ c.if-not-has_extension.true)
+    (omega (arith, btf.0, c.min.ensures)) btf.1
 
 pub write_extension-requires-clause-function_names : goal.write_extension-requires-clause-function_names
 write_extension-requires-clause-function_names g c =
@@ -38,18 +39,18 @@ write_extension-requires-clause-relocation_names g c =
 pub returns-in_default-2 : goal.returns-in_default-2
 returns-in_default-2 g c =
     let s = c.args.sections.now in
-    let long : 67108864 < length (written_extension (section c.args.x) (text_offset c.args.names.now) c.args.functions.now c.args.relocations.now) =
+    let long : c.args.limit < length (written_extension (section c.args.x) (text_offset c.args.names.now) c.args.functions.now c.args.relocations.now) =
     rw c.in_default-2.is at c.in_ok-extension.ensures in
-    no_extension s (section c.args.x) (sym c.requires.strings) c.requires.table c.args.names.now c.requires.names c.args.functions.now c.args.relocations.now
-    c.requires.functions.all c.requires.relocations.all (sym c.has_extension.ensures ∙ c.if-not-has_extension.false) long
+    long_extension s (section c.args.x) (sym c.requires.strings) c.requires.table c.args.names.now c.requires.names c.args.functions.now c.args.relocations.now
+    c.requires.functions.all c.requires.relocations.all c.args.limit (sym c.has_extension.ensures ∙ c.if-not-has_extension.false) long
 
 pub returns : goal.returns
 returns g c =
     let s = c.args.sections.now in
     let whole = written_extension (section c.args.x) (text_offset c.args.names.now) c.args.functions.now c.args.relocations.now in
-    let btf : (length (written_btf c.args.x.order s c.args.names.now) ≤ 15728640) × (c.in-Some.types.items ≡ written_btf c.args.x.order s c.args.names.now) =
+    let btf : (length (written_btf c.args.x.order s c.args.names.now) ≤ c.min.result) × (c.in-Some.types.items ≡ written_btf c.args.x.order s c.args.names.now) =
     rw c.in-Some.is at c.in_ok-types.ensures in
-    let extension : (length whole ≤ 67108864) × (c.in-Some-2.extension.items ≡ whole) = rw c.in-Some-2.is at c.in_ok-extension.ensures in
+    let extension : c.in-Some-2.extension.items ≡ whole = rw c.in-Some-2.is at c.in_ok-extension.ensures in
     with_extension s (section c.args.x) (sym c.requires.strings) c.requires.table c.args.names.now c.requires.names c.args.functions.now c.args.relocations.now
     c.requires.functions.all c.requires.relocations.all c.in-Some.types c.in-Some-2.extension (sym c.has_extension.ensures ∙ c.if-not-has_extension.false)
-    btf.0 btf.1 extension.0 extension.1
+    (omega (arith, btf.0, c.min.ensures)) btf.1 extension
