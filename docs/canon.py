@@ -102,7 +102,7 @@ def canonical(data: bytes) -> bytes:
     types = read_types(elf)
     parts = read_extension(elf, types)
     result = write_file(elf, write_types(types, parts) if types else {})
-    rule("ResultTooLarge", 0, len(result) <= MAX_FILE)
+    rule("ResultTooLarge", 0, len(result) <= min(MAX_FILE, 4 * len(data) + 64 * 1024))
     return result
 
 
@@ -228,11 +228,11 @@ class Elf:
         rest = ((start + 64 * number, number, Kind.DROPPED, b"") for number in range(count))
         self.sections += (Section._make(row + more) for row, more in zip(rows, rest))
         rule("FirstSection", start, not any(self.sections[0][:10]))
-        names = self.string_table(self.sections[names_index])
+        names, total = self.string_table(self.sections[names_index]), 0
         rule("NamesTable", 62, names != b"")
         for it in self.sections[1:]:
-            end = it.sh_offset + (0 if it.sh_type == SHT_NOBITS else it.sh_size)
-            rule("SectionCut", it.place + SH_OFFSET, end <= len(self.data))
+            size = 0 if it.sh_type == SHT_NOBITS else it.sh_size
+            rule("SectionCut", it.place + SH_OFFSET, it.sh_offset + size <= len(self.data))
             has_end = b"\0" in names[it.sh_name : it.sh_name + MAX_SECTION_NAME + 1]
             rule("SectionName", it.place + SH_NAME, has_end)
             name = string_at(names, it.sh_name)
@@ -240,6 +240,8 @@ class Elf:
             rule("SectionKind", it.place + SH_TYPE, kind is not Kind.UNKNOWN)
             is_single = kind in (Kind.SYMBOLS, Kind.TYPES, Kind.EXTENSION)
             rule("SectionTwice", it.place + SH_TYPE, not is_single or self.find(kind) is None)
+            total += size if kind in (Kind.DATA, Kind.RELOCATIONS) else 0
+            rule("SectionsTooLarge", it.place, total <= len(self.data))
             self.sections[it.number] = it._replace(name=name, kind=kind)
         for it in self.sections:
             if it.sh_type == SHT_REL:
