@@ -48,7 +48,7 @@ def string_at(strings: bytes, offset: int) -> bytes:
     return strings[offset : strings.index(b"\0", offset)]
 
 
-# The first two are kept, the next three written anew. A file with a section of the last is refused.
+# The file. Sections of two kinds are kept, and of three written anew. UNKNOWN ones are refused.
 Kind = Enum("Kind", "DATA RELOCATIONS SYMBOLS TYPES EXTENSION DROPPED UNKNOWN")
 L, C, I = SHF_ALLOC | SHF_EXECINSTR, SHF_COMPRESSED, SHF_GROUP | SHF_LINK_ORDER | SHF_INFO_LINK
 # sh_type, names, flags that are 0, kind. The names of all rows but the last are reserved.
@@ -137,9 +137,9 @@ def write_file(elf: Elf, types: dict[bytes, bytes]) -> bytes:
         (strings.add(string_at(names, name)), info, other, sections.get(shndx, shndx), *place)
         for name, info, other, shndx, *place in elf.symbols.values()
     ]
-    locals = max(number for number, it in enumerate(symbols, 1) if it[1] >> 4 == STB_LOCAL)
+    last_local = max(number for number, it in enumerate(symbols) if it[1] >> 4 == STB_LOCAL)
     rows = b"".join(pack(elf.mark + SYMBOL, *it) for it in symbols)
-    append(b".symtab", rows, SHT_SYMTAB, 0, 0, len(rows), symtab + 1, locals, 8, 24)
+    append(b".symtab", rows, SHT_SYMTAB, 0, 0, len(rows), symtab + 1, 1 + last_local, 8, 24)
     append(b".strtab", strings.content, SHT_STRTAB, 0, 0, len(strings.content), 0, 0, 1, 0)
     start = elf.data[:7] + bytes(9), ET_REL, EM_BPF, 1, 0, 0, len(body), elf.e_flags, 64, 0, 0, 64
     body[:64] = pack(elf.mark + ELF_HEADER, *start, symtab + 2, symtab + 1)
@@ -176,6 +176,7 @@ def write_words(types: Types, rows: Iterable[Record], strings: Strings) -> bytes
     return pack(f"{types.mark}{len(words)}I", *words)
 
 
+# Refused files: what reads a part of a file checks its rules, in the order of the page.
 class Elf:
     """The ELF part of a file. `mark` is the byte order for `struct`; `symbols` are the rows of the
     null symbol and of the kept ones, by their numbers."""
@@ -253,8 +254,7 @@ class Elf:
     def read_symbols(self) -> None:
         if (table := self.find(Kind.SYMBOLS)) is None:
             raise Refused("NoSymbols", 40)
-        is_right = table.sh_size > 0 and table.sh_size % 24 == 0
-        rule("SymbolTableSize", table.place + SH_SIZE, is_right)
+        rule("SymbolTableSize", table.place + SH_SIZE, table.sh_size in range(24, MAX_FILE, 24))
         rule("SymbolEntrySize", table.place + SH_ENTSIZE, table.sh_entsize == 24)
         names = self.symbol_names = self.string_table(self.section(table.sh_link))
         rule("SymbolNames", table.place + SH_LINK, names != b"")
@@ -313,7 +313,7 @@ PARTS = (("insn_off", TYPE), ("insn_off", "file", "line", "col"), ("insn_off", T
 
 
 class Types:
-    """A .BTF by itself, by FAULTS.md. Offsets are those in .BTF. Record 0 is void."""
+    """A .BTF by itself, by FAULTS.md, with offsets in .BTF. Number 0 of the records is void."""
 
     def __init__(self, data: bytes) -> None:
         rule("ShortHeader", len(data), len(data) >= 24)
@@ -484,14 +484,14 @@ def main() -> None:
     parser = argparse.ArgumentParser(description=__doc__.partition("\n")[0])
     parser.add_argument("file", nargs="?", default="/dev/stdin", metavar="FILE")
     parser.add_argument("-o", default="/dev/stdout", dest="out", metavar="OUT")
-    words = parser.parse_args()
+    given = parser.parse_args()
     try:
-        with open(words.file, "rb") as file:
+        with open(given.file, "rb") as file:
             result = canonical(file.read(MAX_FILE + 1))
-        with open(words.out, "wb") as file:
+        with open(given.out, "wb") as file:
             file.write(result)
     except Refused as it:
-        sys.exit(f"{words.file}: byte {it.offset}: {it.cause}")
+        sys.exit(f"{given.file}: byte {it.offset}: {it.cause}")
     except OSError as error:
         parser.exit(2, f"{error}\n")
 

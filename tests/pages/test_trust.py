@@ -79,12 +79,13 @@ def test_record():
 
 
 @pytest.mark.needs("cc")
-def test_console(program, tmp_path):
+def test_console(program, object_program, tmp_path):
     """Runs the lines in a folder with what they read."""
     (block,) = (found[2] for found in BLOCK.finditer(TEXT) if found[1] == "console")
-    for name in "bench", "testdata", "tests":
+    for name in "bench", "docs", "testdata", "tests":
         (tmp_path / name).symlink_to(TOP / name)
     (tmp_path / "bpfcanon").symlink_to(program.path)
+    (tmp_path / "bpfcanon-object").symlink_to(object_program)
     environment = os.environ | {"PATH": f"{tmp_path}:{os.environ['PATH']}", "PYTHONDONTWRITEBYTECODE": "1"}
     for part in re.split(r"^\$ ", block, flags=re.MULTILINE)[1:]:
         line, _, printed = part.partition("\n")
