@@ -1,5 +1,5 @@
 # make            the commands and the C library, proved and built (15 to 25 minutes at first), in out/prefix
-# make demo       the main job on an example, unproved, in a minute; make demo-proved proves it first
+# make demo       the main job on two examples, unproved, in two minutes; make demo-proved proves it first
 # make check      all proofs, mutations and tests (about an hour on 4 processors); make check-quick what needs seconds and no proof;
 #                 make mutations tries the mutations that have changed; make check-tests the tests of what is built
 # make install    what is built, into PREFIX (and DESTDIR), with libraries in LIBDIR; make uninstall removes it
@@ -29,7 +29,7 @@ export PYTHONDONTWRITEBYTECODE = 1
 export RT_JOBS ?= $(WORKERS)
 $(shell mkdir -p out)
 
-.PHONY: all demo demo-proved check check-quick prove beside mutations release-objects tested check-tests check-c check-built record check-release
+.PHONY: all kit demo demo-proved check check-quick prove beside mutations release-objects tested check-tests check-c check-built record check-release
 .PHONY: lint tools written install uninstall dist clean FORCE
 all: $(COMMANDS) $(LIBRARY)
 
@@ -42,9 +42,22 @@ $(ARCHIVE): FORCE
 	capi/archive --keep $(WAITS) 2>&1 | tee -a out/archive.log
 FORCE:
 
+# Without the kit, what proves or compiles ends here.
+$(COMMANDS) demo demo-proved check prove mutations: | kit
+kit:
+	@command -v rt > out/found || { echo "Rattle's kit is missing: there is no rt on the path. Without it, docs/canon.py FILE writes the canonical file of an" \
+	"object, testdata/ has vectors for other implementations, and make check-quick tests the pages and the sources"; exit 1; } >&2
+
+# An object before and after a comment has one canonical file, and a program in either byte order the same canonical bytes.
+demo demo-proved: RUN = rt $(if $(filter demo,$@),try,run) --
 demo demo-proved: DATA = ../../testdata/packet_filter
 demo demo-proved:
-	@cd crates/bpfcanon && rt $(if $(filter demo,$@),try,run) -- insn-canon --order big < $(DATA).big.bin | cmp - $(DATA).little.bin && \
+	@rm -rf out/demo && mkdir out/demo && printf '__attribute__((section("xdp"))) int pass(void *ctx)\n{\n\treturn 2;\n}\n' > out/demo/pass.c
+	@cd out/demo && clang -target bpf -O2 -g -c pass.c -o before.o && sed -i 's|return 2;|return 2; // a note|' pass.c && \
+	clang -target bpf -O2 -g -c pass.c -o after.o && ! cmp before.o after.o
+	@cd crates/bpfcanon_object && $(RUN) key $(CURDIR)/out/demo/before.o $(CURDIR)/out/demo/after.o | tee ../../out/demo/keys && \
+	test $$(cut -c 1-64 ../../out/demo/keys | sort -u | wc -l) = 1 && echo 'right: the object after a comment has the key of the one before'
+	@cd crates/bpfcanon && $(RUN) insn-canon --order big < $(DATA).big.bin | cmp - $(DATA).little.bin && \
 	echo 'right: the canonical bytes of the big-endian program are those of the little-endian one$(if $(filter demo,$@),. Nothing was proved)'
 
 # The commands aren't a prerequisite: the sources of a release have the archive alone.
