@@ -12,6 +12,7 @@ import os
 import re
 import stat
 import subprocess
+import unicodedata
 
 import pytest
 
@@ -29,6 +30,14 @@ OTHER = CANONICAL[:48] + b"\1" + CANONICAL[49:]
 CUT = CANONICAL[:40]
 TARGETS = ("bpfel", "bpfeb")
 LONGEST = 64 * 1024 * 1024
+# The sentences of the causes of instructions and object files, as docs/FAULTS.md has them.
+SENTENCES = {
+    fields[2]: fields[3]
+    for fields in (line.split("\t") for line in (TOP / "docs" / "causes.tsv").read_text().splitlines() if not line.startswith("#"))
+    if fields[0] in ("insn", "object")
+}
+# An object file for x86-64: e_machine is 62.
+HOST = CANONICAL[:18] + bytes([62, 0]) + CANONICAL[20:]
 # Names that something could act on, and how they are printed. sha256sum escapes the first four in the same way.
 NAMES = {
     "plain ü.o": "plain ü.o",
@@ -38,6 +47,8 @@ NAMES = {
     "red\x1b[31m\x7f.o": "red\\x1b[31m\\x7f.o",
     "next\x85\x9b31m.o": "next\\x85\\x9b31m.o",
     "::error::\ttab, 100%.o": "::error::\\x09tab, 100%.o",
+    "soft\u00ad\u202eo.fpb\u2066.o": "soft\\u{0000ad}\\u{00202e}o.fpb\\u{002066}.o",
+    "line\u2028\ufefftag\U000e0041\U0001d173.o": "line\\u{002028}\\u{00feff}tag\\u{0e0041}\\u{01d173}.o",
 }
 
 
@@ -65,9 +76,10 @@ def folder(tmp_path):
     return write
 
 
-def has_fault(ran, name, offset, output=b""):
-    """Whether a file was refused: status 1, and a message with the name and the offset of the fault."""
-    return ran.status == 1 and ran.output == output and re.fullmatch(rb"%s: %d: [ -~]+\n" % (re.escape(name.encode()), offset), ran.message)
+def has_fault(ran, name, offset, output=b"", status=1):
+    """Whether a file was refused: a message with the name, the offset of the fault and its cause."""
+    line = rb"%s: byte %d: [A-Z]\w+: [ -~]+\n" % (re.escape(name.encode()), offset)
+    return ran.status == status and ran.output == output and re.fullmatch(line, ran.message)
 
 
 def has_trouble(ran, name, output=b""):
@@ -105,9 +117,56 @@ def test_canon_outputs(run, folder):
     assert stat.S_IMODE((made / "output").stat().st_mode) == 0o600
     assert stat.S_ISCHR(os.stat("/dev/null").st_mode)
     assert run("canon", "one", "-o", "/dev/stdout") == Ran(0, CANONICAL)
+    (made / "dangling").symlink_to("folder/behind")
+    (made / "folder").mkdir()
+    (made / "folder" / "behind").symlink_to("new")
+    assert run("canon", "one", "-o", "dangling") == Ran(0) and (made / "dangling").is_symlink()
+    assert (made / "folder" / "new").read_bytes() == CANONICAL
     assert has_trouble(run("canon", "one", "-o", "."), ".")
     assert has_trouble(run("canon", "one", "-o", "missing/output"), "missing/output")
-    assert sorted(it.name for it in made.iterdir()) == ["link", "one", "output"]
+    assert sorted(it.name for it in made.iterdir()) == ["dangling", "folder", "link", "one", "output"]
+
+
+def test_temporary_names(run, folder):
+    """What killed runs left behind ends no later one, and the name of the output may be as long as a name can be."""
+    long = "x" * 255
+    made = folder(one=CANONICAL, **{f".bpfcanon-object.{number}.tmp": b"left" for number in range(200)})
+    assert run("canon", "one", "-o", long) == Ran(0) and (made / long).read_bytes() == CANONICAL
+    assert len(list(made.iterdir())) == 202
+
+
+# What is refused, and what helps.
+REMARKS = {
+    "empty": (b"", "(it is empty)"),
+    "archive": (b"!<arch>\n" + bytes(60), "(it is an archive: extract its members by ar x)"),
+    "source": (b"int main(void) { return 0; }\n", "(it is text: compile a source file by clang -target bpf -O2 -g -c)"),
+    "long source": (b"#include <linux/bpf.h>\n" * 9, "(it is text: compile a source file by clang -target bpf -O2 -g -c)"),
+    "machine": (HOST, "(it is for x86-64)"),
+    "program": (CANONICAL[:16] + bytes([2, 0, 183, 0]) + CANONICAL[20:], "(it is for 64-bit ARM)"),
+}
+
+
+@pytest.mark.parametrize("row", REMARKS.values(), ids=REMARKS)
+def test_remarks(row, run):
+    content, remark = row
+    ran = run("key", "-", input=content)
+    assert ran.status == 1 and ran.message.decode().endswith(f" {remark}\n")
+
+
+def test_section_of_a_fault(run, folder):
+    """A fault in a section header names the section and its type."""
+    made = bytearray(CANONICAL)
+    row = int.from_bytes(CANONICAL[40:48], "little") + 2 * 64
+    made[row + 4 : row + 8] = (7).to_bytes(4, "little")
+    ran = run("check", "-", input=bytes(made))
+    assert ran.message.decode().endswith('(section 2, "xdp", of sh_type 0x7)\n')
+
+
+def test_hints(run):
+    assert run("diff", "one", "two").message.endswith(b"bpfcanon-object: bpfcanon-review has diff, show and list\n")
+    assert b"-mcpu" in run("check", "--target", "v3", "one").message and b"-mcpu" in run("check", "--target=v3", "one").message
+    for words in ("canon", "."), ("same", "-", "."), ("key", "missing"):
+        assert b"os error" not in run(*words, input=CANONICAL).message
 
 
 def test_longest(run, tmp_path):
@@ -134,13 +193,13 @@ def test_names(name, run, tmp_path):
     (tmp_path / name).write_bytes(CUT)
     refused = run("check", "--format", "json", name)
     assert refused.status == 1 and refused.message == b""
-    assert json.loads(refused.output) | {"text": ""} == {"file": name, "accepted": False, "offset": len(CUT), "text": ""}
+    assert json.loads(refused.output) == {"file": name, "accepted": False, "offset": len(CUT), "cause": "FileCut", "text": SENTENCES["FileCut"]}
     assert has_fault(run("key", name), NAMES[name], len(CUT))
     (tmp_path / name).unlink()
     assert has_trouble(run("key", name), NAMES[name])
     for ran in accepted, refused, run("same", name), run(name), run("check", "--format", name, name):
         text = (ran.output + ran.message).decode()
-        assert text and re.fullmatch(r"[^\x00-\x09\x0b-\x1f\x7f-\x9f]*", text)
+        assert text and {unicodedata.category(it) for it in text if it != "\n"}.isdisjoint({"Cc", "Cf", "Zl", "Zp"})
 
 
 def test_key(run, folder):
@@ -196,8 +255,8 @@ def test_same(run, folder):
     folder(one=CANONICAL, again=CANONICAL, two=OTHER, cut=CUT)
     assert run("same", "one", "again") == run("same", "-", "one", input=CANONICAL) == Ran(0, b"same\n")
     assert run("same", "one", "two") == run("same", "two", "-", input=CANONICAL) == Ran(1, b"different\n")
-    assert has_fault(run("same", "cut", "one"), "cut", len(CUT))
-    assert has_fault(run("same", "one", "cut"), "cut", len(CUT))
+    assert has_fault(run("same", "cut", "one"), "cut", len(CUT), status=2)
+    assert has_fault(run("same", "one", "cut"), "cut", len(CUT), status=2)
     assert has_trouble(run("same", "one", "missing"), "missing")
     assert has_trouble(run("same", "missing", "cut"), "missing")
     assert has_trouble(run("same", "-", "-", input=CANONICAL), "-")
@@ -211,7 +270,8 @@ def test_check(run, folder):
     assert run("check", "--format", "github", "one") == Ran(0)
     found = run("check", "--format", "github", "cut,:%", "one")
     assert found.status == 1 and found.message == b""
-    assert re.fullmatch(rb"::error file=cut%%2C%%3A%%25::cut,:%%25: %d: [ -~]+\n" % len(CUT), found.output)
+    line = f"::error file=cut%2C%3A%25::cut,:%25: byte {len(CUT)}: FileCut: {SENTENCES['FileCut']}\n"
+    assert found.output == line.encode()
     assert has_trouble(run("check", "--format", "json", "one", "missing"), "missing", b'{"file":"one","accepted":true}\n')
 
 
@@ -238,10 +298,10 @@ def test_faults_of_code(fault, run, folder):
     behind, offset, cause = fault
     code = bytes.fromhex("b700000002000000 9500000000000000" + behind)
     folder(**{"one": CANONICAL, "odd": with_code(code), "data": with_code(code, b"\2"), "cut": CUT})
-    place = f"xdp+{offset:#x}: {cause}"
+    place = f"xdp+{offset:#x}: {cause}: {SENTENCES[cause]}"
     assert run("check", "one", "odd", "data") == Ran(1, b"one: accepted\nodd: accepted\ndata: accepted\n", f"odd: {place}\n".encode())
     rows = [json.loads(it) for it in run("check", "--format", "json", "odd", "one").output.splitlines()]
-    found = {"file": "odd", "section": "xdp", "offset": offset, "text": cause}
+    found = {"file": "odd", "section": "xdp", "offset": offset, "cause": cause, "text": SENTENCES[cause]}
     assert rows == [{"file": "odd", "accepted": True}, found, {"file": "one", "accepted": True}]
     assert run("check", "--format", "github", "one", "odd") == Ran(1, f"::error file=odd::odd: {place}\n".encode())
 
@@ -263,25 +323,26 @@ def test_target(row, run, folder):
     code, groups, found = row
     folder(**{"odd": with_code(bytes.fromhex(code)), "data": with_code(bytes.fromhex(code), b"\2"), "cut": CUT})
     offset, group = found or (0, None)
-    reason = f"needs {group}" if group else "Opcode"
-    text = f"xdp+{offset:#x}: {reason}"
+    cause, reason = ("Target", f"the target lacks {group}") if group else ("Opcode", SENTENCES["Opcode"])
+    text = f"xdp+{offset:#x}: {cause}: {reason}"
     ran = run("check", "--target", groups, "data", "odd")
     assert ran == Ran(int(found is not None), b"data: accepted\nodd: accepted\n", f"odd: {text}\n".encode() if found else b"")
     rows = [json.loads(it) for it in run("check", "--format", "json", "--target", groups, "odd").output.splitlines()]
-    assert rows[1:] == ([{"file": "odd", "section": "xdp", "offset": offset, "text": reason}] if found else [])
+    assert rows[1:] == ([{"file": "odd", "section": "xdp", "offset": offset, "cause": cause, "text": reason}] if found else [])
     line = f"::error file=odd::odd: {text}\n".encode() if found else b""
     assert run("check", "--format", "github", f"--target={groups}", "odd") == Ran(int(found is not None), line)
     assert has_fault(run("check", "--target", groups, "cut"), "cut", len(CUT))
 
 
 def test_folders(run, folder):
-    """A folder is all object files in it, by name: what begins with the magic number of ELF. Links in it are left out."""
+    """A folder is all BPF object files in it, by name. Links in it, ELF files for another machine and other files are left out."""
     made = folder(b=CANONICAL, text=b"no object", empty=b"")
     for name in "a/z", "a/y", "c.o", "a.o":
         path = made / "top" / name
         path.parent.mkdir(parents=True, exist_ok=True)
         path.write_bytes(CANONICAL)
     (made / "top" / "notes").write_bytes(b"\x7fEL")
+    (made / "top" / "program").write_bytes(HOST)
     (made / "top" / "link").symlink_to("../b")
     (made / "top" / "loop").symlink_to("..")
     found = ["top/a.o", "top/a/y", "top/a/z", "top/c.o"]
@@ -294,6 +355,9 @@ def test_folders(run, folder):
     (made / "top" / os.fsdecode(b"\xff.o")).write_bytes(CANONICAL)
     other = run("check", "top/a", "top")
     assert other.status == 2 and other.output.count(b": accepted\n") == 4
+    assert b"bpfcanon-object: top: the name of a file in it isn't UTF-8\n" in other.message
+    (made / "none" / "program").write_bytes(HOST)
+    assert has_trouble(run("key", "none"), "none") and has_fault(run("key", "none/program"), "none/program", 18)
 
 
 WORDS = {
@@ -318,14 +382,19 @@ def test_help(run):
     """The help and the version are on standard output. The version is that of the library."""
     version = re.search(r'BPFCANON_VERSION "(.*)"', (TOP / "capi" / "bpfcanon.h").read_text())[1]
     assert run("--version") == Ran(0, f"bpfcanon-object {version}\n".encode())
+    assert run("version") == run("--version") and run("help") == run("--help")
     for words in (), ("canon",), ("key",), ("same",), ("check",):
         ran = run(*words, "--help")
         assert ran.status == 0 and ran.message == b"" and b"Usage: " in ran.output
+        assert not re.search(rb"^ +(?:<\w+>|-\w, |--\w+)[^ ]*(?: <\w+>)?(?:\.\.\.)?$", ran.output, re.MULTILINE), "an argument has no text"
 
 
-def test_words_that_are_no_text(run):
-    ran = run("key", b"\xff")
-    assert ran.status == 2 and ran.output == b"" and ran.message == b"bpfcanon-object: the arguments aren't text\n"
+def test_names_that_are_no_text(run, folder):
+    """A name that isn't UTF-8 is trouble for that file alone, and no other file is taken for it."""
+    folder(**{"one": CANONICAL, "\ufffd": CANONICAL})
+    right = Ran(2, f"{KEY}  one\n".encode(), "bpfcanon-object: \ufffd: its name isn't UTF-8\n".encode())
+    assert run("key", b"\xff", "one") == right
+    assert run("canon", "one", "-o", b"\xff") == Ran(2, b"", right.message)
 
 
 def test_full_output(run, folder):
@@ -407,6 +476,7 @@ def with_fault(target, at, *flags):
 FOLDERS = {
     "as it is": (str(TOP / "testdata"), str(TOP / "testdata"), str(TOP / "testdata")),
     "a name that something could act on": ("/a,b:c%\x1b\\", "/a,b:c%\\x1b\\\\", "/a%2Cb%3Ac%25\\x1b\\\\"),
+    "a long name": ("/" + "d" * 300,) * 3,
 }
 
 
@@ -414,16 +484,19 @@ FOLDERS = {
 @pytest.mark.parametrize("target", TARGETS)
 def test_source_lines(target, names, run, folder):
     """What is reported of code has the line and column of source: of the return statement, as DWARF and `llvm-objdump -S` have them."""
-    name, text, parameter = (f"{it}/pass.c" for it in names)
+    name, text, parameter = (f"{it}/pass.c"[:256] for it in names)
     flag = f"-fdebug-prefix-map={TOP / 'testdata'}={names[0]}"
     folder(first=with_fault(target, 0, flag), second=with_fault(target, 8, flag), good=compiled("pass", target, "-g", flag))
-    lines = [f"first: xdp+0x0: Opcode at {text}:6:2", f"second: xdp+0x8: Opcode at {text}:6:2", f"good: xdp+0x0: needs base64 at {text}:6:2"]
+    opcode = f"Opcode: {SENTENCES['Opcode']}"
+    lines = [f"first: xdp+0x0: {opcode}", f"second: xdp+0x8: {opcode}", "good: xdp+0x0: Target: the target lacks base64"]
+    lines = [f"{it}, at {text}:6:2" for it in lines]
     files = "first", "second", "good"
     accepted = "".join(f"{it}: accepted\n" for it in files).encode()
     assert run("check", "--target", "base32", *files) == Ran(1, accepted, "".join(f"{it}\n" for it in lines).encode())
     rows = [json.loads(it) for it in run("check", "--format", "json", "second").output.splitlines()]
-    assert rows[1] == {"file": "second", "section": "xdp", "offset": 8, "text": "Opcode", "source": name, "line": 6, "column": 2}
-    message = "second: xdp+0x8: Opcode"
+    found = {"section": "xdp", "offset": 8, "cause": "Opcode", "text": SENTENCES["Opcode"]}
+    assert rows[1] == {"file": "second", **found, "source": name, "line": 6, "column": 2}
+    message = f"second: xdp+0x8: {opcode}"
     assert run("check", "--format", "github", "second") == Ran(1, f"::error file={parameter},line=6,col=2::{message}\n".encode())
 
 
@@ -434,8 +507,8 @@ def test_no_source_lines(target, run, folder):
     code = bytearray(made)
     code[made.index(b"\xb7")] = 0xFF
     folder(plain=bytes(code), canonical=canonical(with_fault(target, 0)))
-    messages = b"plain: xdp+0x0: Opcode\ncanonical: xdp+0x0: Opcode\n"
-    assert run("check", "plain", "canonical") == Ran(1, b"plain: accepted\ncanonical: accepted\n", messages)
+    messages = "".join(f"{it}: xdp+0x0: Opcode: {SENTENCES['Opcode']}\n" for it in ("plain", "canonical"))
+    assert run("check", "plain", "canonical") == Ran(1, b"plain: accepted\ncanonical: accepted\n", messages.encode())
 
 
 @pytest.mark.parametrize("target", TARGETS)

@@ -93,10 +93,10 @@ def test_command_of_definition(tmp_path: Path) -> None:
 
 
 @functools.lru_cache(maxsize=None)
-def sentences() -> dict[str, str]:
-    """What the command says of each cause, by the sources."""
-    text = "".join((TOP / "crates" / crate / "src/fault.rt").read_text() for crate in ("bpf_elf", "bpf_object"))
-    return {cause: sentence for sentence, cause in re.findall(r'#\[error\("([^"{]+)"\)\]\n    (\w+)', text)}
+def sentences() -> dict[tuple[str, str], str]:
+    """The sentence of each cause, by its kind and name."""
+    rows = (line.split("\t") for line in (TOP / "docs/causes.tsv").read_text().splitlines() if not line.startswith("#"))
+    return {(kind, name): sentence for kind, _, name, sentence, *_ in rows}
 
 
 @each_row
@@ -112,8 +112,10 @@ def test_program(row: Row, object_program: Path, tmp_path: Path) -> None:
     )
     found = [it for it in map(json.loads, check.stdout.splitlines()) if "section" not in it]
     if row.fault:
-        text = sentences().get(row.fault.cause, row.fault.cause)
-        assert found == [{"file": row.file, "accepted": False, "offset": row.fault.offset, "text": text}]
+        # A fault of .BTF has the cause in brackets, and a remark in parentheses may follow a sentence.
+        kind, cause = ("btf", row.fault.cause[6:-1]) if row.fault.cause.startswith("Types(") else ("object", row.fault.cause)
+        assert found[0].pop("text").startswith(sentences()[kind, cause])
+        assert found == [{"file": row.file, "accepted": False, "offset": row.fault.offset, "cause": cause}]
         assert (key.returncode, key.stdout) == (1, b"")
     else:
         assert found == [{"file": row.file, "accepted": True}]

@@ -1,5 +1,6 @@
 mod CodeLemmas
 pub mod EscapeLemmas
+pub mod FormatCharacters
 pub mod KeyLineLemmas
 pub mod TargetLemmas
 pub mod TextLemmas

@@ -4,7 +4,7 @@ use Rattle.std.specs.Prelude.{encode_utf8, encode_utf8_all, Option, Some, None, 
 use Rattle.std.specs.Fmt.{digit_glyph}
 use Rattle.std.specs.Char.{digit_value}
 use Rattle.std.proofs.lemmas.Str.{encode_ascii, encode_same, length-encode, len_utf8_bounds}
-use Rattle.bpfcanon_object.specs.Escape.{escaped_char, is_control, numbered, two_digits}
+use Rattle.bpfcanon_object.specs.Escape.{escaped_char, is_control, is_format, numbered, numbered_format, six_digits, two_digits}
 use Rattle.bpfcanon_object.proofs.TextLemmas.{by_cond}
 
 equal : (m n : ℕ) → (m == n) ≡ true → m ≡ n
@@ -13,13 +13,17 @@ equal m n h = grind arith
 unequal : (m n : ℕ) → (m == n) ≡ false → m ≡ n → ⊥
 unequal m n h e = grind arith
 
--- the four escapes
+-- the five escapes
 abbrev pub Escape : ℕ → List ℕ → List ℕ → Type 0
 Escape c rest behind =
     ((c ≡ 92) × (rest ≡ 92 ∷ behind)) ⊎
     (((c ≡ 10) × (rest ≡ 110 ∷ behind)) ⊎
     (((c ≡ 13) × (rest ≡ 114 ∷ behind)) ⊎
-    ((is_control c ≡ true) × (rest ≡ 120 ∷ (two_digits c ++ behind)))))
+    (((is_control c ≡ true) × (rest ≡ 120 ∷ (two_digits c ++ behind))) ⊎
+    ((is_format c ≡ true) × (rest ≡ 117 ∷ (123 ∷ (six_digits c ++ (125 ∷ behind))))))))
+
+wide_behind : (c : ℕ) (behind : List ℕ) → drop 1 (numbered_format c ++ behind) ≡ 117 ∷ (123 ∷ (six_digits c ++ (125 ∷ behind)))
+wide_behind c behind = refl
 
 -- what is behind a backslash
 pub escape_at : (c : ℕ) (rest behind : List ℕ) → 92 ∷ rest ≡ escaped_char c ++ behind → Escape c rest behind
@@ -29,16 +33,18 @@ escape_at c rest behind =
     by_cond Q (c == 92) (codes "\\\\") _ (λ h e. inl (equal c 92 h, ap (drop 1) e)) (λ n.
     by_cond Q (c == 10) (codes "\\n") _ (λ h e. inr (inl (equal c 10 h, ap (drop 1) e))) (λ _.
     by_cond Q (c == 13) (codes "\\r") _ (λ h e. inr (inr (inl (equal c 13 h, ap (drop 1) e)))) (λ _.
-    by_cond Q (is_control c) (numbered c) (encode_utf8 c) (λ h e. inr (inr (inr (h, ap (drop 1) e)))) (λ _ e.
-    absurd (unequal c 92 n (sym (encode_same 92 c rest behind e).0))))))
+    by_cond Q (is_control c) (numbered c) _ (λ h e. inr (inr (inr (inl (h, ap (drop 1) e))))) (λ _.
+    by_cond Q (is_format c) (numbered_format c) (encode_utf8 c) (λ h e. inr (inr (inr (inr (h, ap (drop 1) e ∙ wide_behind c behind))))) (λ _ e.
+    absurd (unequal c 92 n (sym (encode_same 92 c rest behind e).0)))))))
 
--- the four escapes by their second character
+-- the five escapes by their second character
 abbrev pub EscapeBy : ℕ → List ℕ → ℕ → List ℕ → Type 0
 EscapeBy d rest c behind =
     ((d ≡ 92) × (c ≡ 92) × (rest ≡ behind)) ⊎
     (((d ≡ 110) × (c ≡ 10) × (rest ≡ behind)) ⊎
     (((d ≡ 114) × (c ≡ 13) × (rest ≡ behind)) ⊎
-    ((d ≡ 120) × (is_control c ≡ true) × (rest ≡ two_digits c ++ behind))))
+    (((d ≡ 120) × (is_control c ≡ true) × (rest ≡ two_digits c ++ behind)) ⊎
+    ((d ≡ 117) × (is_format c ≡ true) × (rest ≡ 123 ∷ (six_digits c ++ (125 ∷ behind)))))))
 
 pub escape_by : (d c : ℕ) (text rest behind : List ℕ) → text ≡ encode_utf8 d ++ rest → 92 ∷ text ≡ escaped_char c ++ behind → EscapeBy d rest c behind
 unfolding lib.Utf8.encode
@@ -49,7 +55,8 @@ escape_by d c text rest behind s e =
       | inl h ↦ (let q = same 92 behind h.1 in inl (q.0, h.0, q.1))
       | inr (inl h) ↦ (let q = same 110 behind h.1 in inr (inl (q.0, h.0, q.1)))
       | inr (inr (inl h)) ↦ (let q = same 114 behind h.1 in inr (inr (inl (q.0, h.0, q.1))))
-      | inr (inr (inr h)) ↦ (let q = same 120 (two_digits c ++ behind) h.1 in inr (inr (inr (q.0, h.0, q.1))))
+      | inr (inr (inr (inl h))) ↦ (let q = same 120 (two_digits c ++ behind) h.1 in inr (inr (inr (inl (q.0, h.0, q.1)))))
+      | inr (inr (inr (inr h))) ↦ (let q = same 117 (123 ∷ (six_digits c ++ (125 ∷ behind))) h.1 in inr (inr (inr (inr (q.0, h.0, q.1)))))
     ]
 
 -- a backslash is no text
@@ -59,7 +66,8 @@ escape_more c rest behind none e =
       | inl h ↦ absurd (let l = ap length h.1 in omega (arith, none, l))
       | inr (inl h) ↦ absurd (let l = ap length h.1 in omega (arith, none, l))
       | inr (inr (inl h)) ↦ absurd (let l = ap length h.1 in omega (arith, none, l))
-      | inr (inr (inr h)) ↦ absurd (let l = ap length h.1 in omega (arith, none, l))
+      | inr (inr (inr (inl h))) ↦ absurd (let l = ap length h.1 in omega (arith, none, l))
+      | inr (inr (inr (inr h))) ↦ absurd (let l = ap length h.1 in omega (arith, none, l))
     ]
 
 length-escaped_char : (c : ℕ) → 0 < length (escaped_char c)
@@ -68,8 +76,9 @@ length-escaped_char c =
     by_cond Q (c == 92) (codes "\\\\") _ (λ _. omega arith) (λ _.
     by_cond Q (c == 10) (codes "\\n") _ (λ _. omega arith) (λ _.
     by_cond Q (c == 13) (codes "\\r") _ (λ _. omega arith) (λ _.
-    by_cond Q (is_control c) (numbered c) (encode_utf8 c) (λ _. omega arith) (λ _.
-    let long = (len_utf8_bounds c).0 in omega (arith, long, length-encode c)))))
+    by_cond Q (is_control c) (numbered c) _ (λ _. omega arith) (λ _.
+    by_cond Q (is_format c) (numbered_format c) (encode_utf8 c) (λ _. omega arith) (λ _.
+    let long = (len_utf8_bounds c).0 in omega (arith, long, length-encode c))))))
 
 -- the text of a character is not empty
 pub text_more : {R : Type 0} (c : ℕ) (text behind : List ℕ) → length text ≡ 0 → text ≡ escaped_char c ++ behind → R
@@ -86,8 +95,9 @@ plain-same d c rest behind plain =
     by_cond Q (c == 92) (codes "\\\\") _ (λ h e. absurd (plain (encode_same d 92 rest (92 ∷ behind) e).0)) (λ n.
     by_cond Q (c == 10) (codes "\\n") _ (λ h e. absurd (plain (encode_same d 92 rest (110 ∷ behind) e).0)) (λ _.
     by_cond Q (c == 13) (codes "\\r") _ (λ h e. absurd (plain (encode_same d 92 rest (114 ∷ behind) e).0)) (λ _.
-    by_cond Q (is_control c) (numbered c) (encode_utf8 c) (λ h e. absurd (plain (encode_same d 92 rest (120 ∷ (two_digits c ++ behind)) e).0)) (λ _ e.
-    encode_same d c rest behind e))))
+    by_cond Q (is_control c) (numbered c) _ (λ h e. absurd (plain (encode_same d 92 rest (120 ∷ (two_digits c ++ behind)) e).0)) (λ _.
+    by_cond Q (is_format c) (numbered_format c) (encode_utf8 c) (λ h e. absurd (plain (encode_same d 92 rest (drop 1 (numbered_format c ++ behind)) e).0)) (λ _ e.
+    encode_same d c rest behind e)))))
 
 digit_back : (n : ℕ) → n < 16 → digit_value (digit_glyph false n) ≡ n
 digit_back n h = grind arith
@@ -103,6 +113,12 @@ digit-same d n text rest behind small s e =
     let one : encode_utf8 g ++ behind ≡ g ∷ behind = ap (λ t. t ++ behind) (encode_ascii g (digit_ascii n small)) in
     let same = encode_same d g rest behind (sym s ∙ e ∙ sym one) in
     (ap digit_value same.0 ∙ digit_back n small, same.1)
+
+-- what is behind an ASCII character
+pub behind_ascii : (d x : ℕ) (text rest behind : List ℕ) → x < 128 → text ≡ encode_utf8 d ++ rest → text ≡ x ∷ behind → rest ≡ behind
+behind_ascii d x text rest behind small s e =
+    let one : encode_utf8 x ++ behind ≡ x ∷ behind = ap (λ t. t ++ behind) (encode_ascii x small) in
+    (encode_same d x rest behind (sym s ∙ e ∙ sym one)).1
 
 pub some_iff : (o : Option ℕ) (P : Type 0) (m n : ℕ) → SomeIff o P m → P → m ≡ n → o ≡ Some n
 some_iff None P m n never p e = absurd (never p)

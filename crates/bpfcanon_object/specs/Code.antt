@@ -1,6 +1,6 @@
 -- What is reported of code: of each section of code the first offset where the bytes aren't an instruction (RFC 9669 section 3), or else the
 -- first instruction outside the target.
-use Rattle.std.specs.Prelude.{◌≡◌, ◌++◌, ◌&&◌, if◌then◌else◌, ℕ, zero, suc, Bool, true, false, List, [], Option, Some, None, All, length, nat_lt}
+use Rattle.std.specs.Prelude.{◌≡◌, ◌++◌, ◌+◌, ◌/◌, ◌&&◌, if◌then◌else◌, ℕ, zero, suc, Bool, true, false, List, [], Option, Some, None, All, length, nat_lt}
 use Rattle.std.specs.Str.Lossy.{utf8_lossy}
 use Rattle.bpf_words.specs.declared.Order.{Order}
 use Rattle.bpf_elf.specs.declared.kinds.Kind.TheVariants.{Data}
@@ -45,14 +45,28 @@ abbrev pub known : Option Line → Option Line
 known None = None
 known (Some source) = if is_known source then Some source else None
 
--- the line for what is reported of a section, if anything is. What isn't UTF-8 in the name of the section becomes U+FFFD
-abbrev pub line_if : Format → List ℕ → List ℕ → ℕ → Option Finding → List ℕ
-line_if format file b i None = []
-line_if format file b i (Some found) = code_line format file (utf8_lossy (name b i)) found (known (source_line b i found.pos))
+-- how often a source line is looked for in a file: each time all of it may be gone through, which is so done with 64 MiB, or one file
+abbrev pub most_sources : List ℕ → ℕ
+most_sources b = 1 + 67108864 / (1 + length b)
 
--- the lines for the first n sections
-abbrev pub AreCodeLines : Format → Option GroupSet → List ℕ → List ℕ → ℕ → List ℕ → Type 0
-AreCodeLines format target file b zero lines = lines ≡ []
-AreCodeLines format target file b (suc n) lines =
-    (before : List ℕ) × ((found : Option Finding)
-    × (AreCodeLines format target file b n before × (IsFoundIn target b n found × (lines ≡ before ++ line_if format file b n found))))
+-- the source line for what is reported of a section, if it is looked for
+abbrev pub source_if : Bool → List ℕ → ℕ → Finding → Option Line
+source_if is_sought b i found = if is_sought then known (source_line b i found.pos) else None
+
+-- the line for what is reported of a section, if anything is. What isn't UTF-8 in the name of the section becomes U+FFFD
+abbrev pub line_if : Format → List ℕ → List ℕ → ℕ → Bool → Option Finding → List ℕ
+line_if format file b i is_sought None = []
+line_if format file b i is_sought (Some found) = code_line format file (utf8_lossy (name b i)) found (source_if is_sought b i found)
+
+-- how many findings a section has
+abbrev pub count_of : Option Finding → ℕ
+count_of None = 0
+count_of (Some found) = 1
+
+-- the lines for the first n sections, of which so many have a finding. Source lines are looked for in the first most of them
+abbrev pub AreCodeLines : Format → Option GroupSet → List ℕ → ℕ → List ℕ → ℕ → ℕ → List ℕ → Type 0
+AreCodeLines format target file most b zero seen lines = (seen ≡ 0) × (lines ≡ [])
+AreCodeLines format target file most b (suc n) seen lines =
+    (earlier : ℕ) × ((before : List ℕ) × ((found : Option Finding)
+    × (AreCodeLines format target file most b n earlier before × (IsFoundIn target b n found
+    × ((seen ≡ earlier + count_of found) × (lines ≡ before ++ line_if format file b n (nat_lt earlier most) found))))))

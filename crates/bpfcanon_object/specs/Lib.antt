@@ -1,8 +1,12 @@
 pub mod Escape
+pub mod CauseNames
 pub mod KeyLines
 pub mod Lines
 pub mod Findings
+pub mod Json
+pub mod Github
 pub mod Formats
 pub mod Target
 pub mod Code
 pub mod Answers
+pub mod Each

@@ -2,11 +2,13 @@
 
 ghost use Rattle.std.specs.Prelude.{◌≡◌, [], IfOk, string_bytes};
 ghost use Rattle.bpfcanon_object.specs.Answers as spec;
-ghost use Rattle.bpfcanon_object.specs.Answers.{IsAnswer, IsRefused};
+ghost use Rattle.bpfcanon_object.specs.Answers.{Explains, IsAnswer, IsRefused};
 ghost use Rattle.bpfcanon_object.specs.Lines.{trouble_line};
 ghost use Rattle.bpfcanon_object.specs.declared.answer.Status.TheVariants.{Trouble};
 
+use crate::cause::{object_cause_name, object_cause_sentence};
 use crate::escape::escaped;
+use crate::remark::remark;
 use bpf_object::ObjectFault;
 use std::alloc::{AllocError, Allocator, Global};
 
@@ -83,19 +85,36 @@ impl<A: Allocator + Copy> Answer<A> {
     }
 }
 
-/// The answer for a file that is refused: the offset of its fault, and the cause.
-pub fn fault_answer<A: Allocator + Copy>(
+/// The sentence of the cause of a fault, and a remark on the file.
+pub fn explained<A: Allocator + Copy>(
     alloc: A,
+    bytes: &[u8],
+    fault: ObjectFault,
+) -> Result<String<A>, AllocError>
+    ensures { IfOk result (λ text. Explains fault.cause (string_bytes text)) }
+{
+    let mut text = String::from_str(alloc, object_cause_sentence(fault.cause))?;
+    let more = remark(alloc, bytes, fault)?;
+    text.push_str(more.as_str())?;
+    Ok(text)
+}
+
+/// The answer for a file that is refused: the offset of its fault, the cause, and what it means.
+pub fn refused_answer<A: Allocator + Copy>(
+    alloc: A,
+    status: Status,
     name: &str,
+    bytes: &[u8],
     fault: ObjectFault,
 ) -> Result<Answer<A>, AllocError>
-    ensures { IfOk result (IsRefused name.now fault []) }
+    ensures { IfOk result (IsRefused status name.now fault []) }
 {
     let name = escaped(alloc, name)?;
-    let ObjectFault { pos, cause } = fault;
-    let cause = cause.to_string(alloc)?;
-    let line = format!(in alloc; "{name}: {pos}: {cause}\n")?;
-    Ok(Answer::of_messages(alloc, Status::No, line))
+    let cause = object_cause_name(fault.cause);
+    let text = explained(alloc, bytes, fault)?;
+    let pos = fault.pos;
+    let line = format!(in alloc; "{name}: byte {pos}: {cause}: {text}\n")?;
+    Ok(Answer::of_messages(alloc, status, line))
 }
 
 /// The answer for a file of which nothing can be said, and why.

@@ -1,18 +1,19 @@
 //! `check`: whether each file is accepted, for readers, programs and GitHub Actions.
 
-ghost use Rattle.std.specs.Prelude.{◌≡◌, ◌++◌, IfOk, OnOk, string_bytes, true};
-ghost use Rattle.bpf_object.specs.declared.fault.ObjectFault.{ObjectFault};
-ghost use Rattle.bpf_object.specs.declared.fault.ObjectError.TheVariants.{Fault};
+ghost use Rattle.std.specs.Prelude.{◌≡◌, IfOk, string_bytes};
 ghost use Rattle.bpfcanon_object.specs.Answers as answers;
 ghost use Rattle.bpfcanon_object.specs.Answers.{IsAcceptedAnswer, IsAnswerWith, IsCheckAnswer};
 ghost use Rattle.bpfcanon_object.specs.Answers.{IsFaultAnswer};
-ghost use Rattle.bpfcanon_object.specs.Escape.{IsPrintable, is_control};
 ghost use Rattle.bpfcanon_object.specs.Formats as spec;
+ghost use Rattle.bpfcanon_object.specs.Json.{json_line};
 
-use crate::answer::{Answer, Status, fault_answer};
-use crate::code_lines::code_lines;
+use crate::answer::{Answer, Status, explained, refused_answer};
+use crate::cause::object_cause_name;
+use crate::code_lines::{code_lines, most_sources};
 use crate::desk::Stop;
-use crate::escape::{escaped, is_control, push_digits};
+use crate::escape::escaped;
+use crate::github::{Part, github_text};
+use crate::json::{json_line, json_text};
 use bpf_insn::GroupSet;
 use bpf_object::{AcceptedObject, ObjectError, ObjectFault};
 use std::alloc::{AllocError, Allocator};
@@ -42,73 +43,6 @@ impl Format {
             _ => Format::Text,
         }
     }
-}
-
-/// A part of a workflow command.
-#[derive(Clone, Copy, Debug, PartialEq, Eq)]
-pub enum Part {
-    /// The value of a property.
-    Property,
-    /// The message, up to the end of the line.
-    Message,
-}
-
-/// Appends a control character of a JSON string.
-fn push_json_control<A: Allocator>(out: &mut String<A>, c: char) -> Result<(), AllocError>
-    requires { is_control c ≡ true }
-    ensures { OnOk result (string_bytes out.new
-        ≡ string_bytes out.old ++ spec.json_control c) }
-{
-    out.push_str("\\u00")?;
-    push_digits(out, c)
-}
-
-/// Appends a character of a JSON string (RFC 8259 section 7).
-fn push_json<A: Allocator>(out: &mut String<A>, c: char) -> Result<(), AllocError>
-    ensures { OnOk result (string_bytes out.new ≡ string_bytes out.old ++ spec.json_char c) }
-{
-    match c {
-        '"' => out.push_str("\\\""),
-        '\\' => out.push_str("\\\\"),
-        _ if is_control(c) => push_json_control(out, c),
-        _ => out.push(c),
-    }
-}
-
-/// What is between the quotation marks of a JSON string. Control characters are escaped, also those
-/// that JSON allows.
-pub fn json_text<A: Allocator>(alloc: A, text: &str) -> Result<String<A>, AllocError>
-    ensures text { IfOk result (λ s. string_bytes s ≡ spec.json_text text.now) }
-    ensures shown { IfOk result (λ s. IsPrintable (string_bytes s)) }
-{
-    let mut json = String::new(alloc);
-    for c in text.chars() {
-        push_json(&mut json, c)?;
-    }
-    Ok(json)
-}
-
-/// Appends a character of a workflow command.
-fn push_github<A: Allocator>(out: &mut String<A>, part: Part, c: char) -> Result<(), AllocError>
-    ensures { OnOk result (string_bytes out.new ≡ string_bytes out.old ++ spec.github_char part c) }
-{
-    match c {
-        '%' => out.push_str("%25"),
-        ':' if part == Part::Property => out.push_str("%3A"),
-        ',' if part == Part::Property => out.push_str("%2C"),
-        _ => out.push(c),
-    }
-}
-
-/// A text without line breaks that ends no part of a workflow command.
-pub fn github_text<A: Allocator>(alloc: A, part: Part, text: &str) -> Result<String<A>, AllocError>
-    ensures { IfOk result (λ s. string_bytes s ≡ spec.github_text part text.now) }
-{
-    let mut value = String::new(alloc);
-    for c in text.chars() {
-        push_github(&mut value, part, c)?;
-    }
-    Ok(value)
 }
 
 /// The lines for a file that is accepted.
@@ -162,113 +96,97 @@ fn answer_with<A: Allocator + Copy>(
     Ok(Answer::of_lines(alloc, status, all))
 }
 
-/// The answer for a file that is accepted.
+/// The answer for a file that is accepted. At most `most` source lines are looked for.
 fn accepted_answer<A: Allocator + Copy>(
     alloc: A,
     format: Format,
     target: Option<GroupSet>,
     name: &str,
     object: &AcceptedObject<'_>,
+    most: usize,
 ) -> Result<Answer<A>, AllocError>
-    ensures { IfOk result (IsAcceptedAnswer format target name.now object.now) }
+    ensures { IfOk result (IsAcceptedAnswer format target name.now most object.now) }
 {
     let lines = accepted_lines(alloc, format, name)?;
-    let faults = code_lines(alloc, format, target, name, object)?;
-    answer_with(alloc, format, lines, faults)
+    let faults = code_lines(alloc, format, target, name, object, most)?;
+    Ok(answer_with(alloc, format, lines, faults)?)
 }
 
-/// The line of a JSON object for a file, with members after that of its name.
-pub fn json_line<A: Allocator + Copy>(
+/// The members for a fault: its offset, its cause, and what that means.
+fn json_fault<A: Allocator + Copy>(
     alloc: A,
-    name: &str,
-    members: &str,
+    fault: ObjectFault,
+    text: &str,
 ) -> Result<String<A>, AllocError>
-    ensures { IfOk result (λ line. string_bytes line ≡ spec.json_line name.now members.now) }
+    ensures { IfOk result (λ members. string_bytes members ≡ spec.json_fault fault text.now) }
 {
-    let name = json_text(alloc, name)?;
-    format!(in alloc; "{{\"file\":\"{name}\",{members}}}\n")
+    let text = json_text(alloc, text)?;
+    let cause = object_cause_name(fault.cause);
+    let pos = fault.pos;
+    format!(in alloc;
+        "\"accepted\":false,\"offset\":{pos},\"cause\":\"{cause}\",\"text\":\"{text}\""
+    )
 }
 
-/// The members for a fault: its offset, and its cause.
-fn json_fault<A: Allocator + Copy>(alloc: A, pos: u64, cause: &str) -> Result<String<A>, AllocError>
-    ensures { IfOk result (λ members. string_bytes members ≡ spec.json_fault pos cause.now) }
-{
-    let text = json_text(alloc, cause)?;
-    format!(in alloc; "\"accepted\":false,\"offset\":{pos},\"text\":\"{text}\"")
-}
-
-/// The JSON object of a file that is refused, with the offset and the cause of its fault.
+/// The JSON object of a file that is refused.
 fn json_fault_line<A: Allocator + Copy>(
     alloc: A,
     name: &str,
-    pos: u64,
-    cause: &str,
+    fault: ObjectFault,
+    text: &str,
 ) -> Result<String<A>, AllocError>
     ensures { IfOk result (λ line. string_bytes line
-        ≡ spec.json_line name.now (spec.json_fault pos cause.now)) }
+        ≡ json_line name.now (spec.json_fault fault text.now)) }
 {
-    let members = json_fault(alloc, pos, cause)?;
+    let members = json_fault(alloc, fault, text)?;
     json_line(alloc, name, members.as_str())
 }
 
-/// The workflow command of a file that is refused, with the offset and the cause of its fault.
+/// The workflow command of a file that is refused.
 fn github_line<A: Allocator + Copy>(
     alloc: A,
     name: &str,
-    pos: u64,
-    cause: &str,
+    fault: ObjectFault,
+    text: &str,
 ) -> Result<String<A>, AllocError>
-    ensures { IfOk result (λ line. string_bytes line ≡ spec.github_line name.now pos cause.now) }
+    ensures { IfOk result (λ line. string_bytes line ≡ spec.github_line name.now fault text.now) }
 {
     let name = escaped(alloc, name)?;
     let file = github_text(alloc, Part::Property, name.as_str())?;
     let name = github_text(alloc, Part::Message, name.as_str())?;
-    let text = github_text(alloc, Part::Message, cause)?;
-    format!(in alloc; "::error file={file}::{name}: {pos}: {text}\n")
+    let text = github_text(alloc, Part::Message, text)?;
+    let cause = object_cause_name(fault.cause);
+    let pos = fault.pos;
+    format!(in alloc; "::error file={file}::{name}: byte {pos}: {cause}: {text}\n")
 }
 
 /// The answer for a file that is refused.
-fn refused_answer<A: Allocator + Copy>(
+fn fault_answer<A: Allocator + Copy>(
     alloc: A,
     format: Format,
     name: &str,
+    bytes: &[u8],
     fault: ObjectFault,
 ) -> Result<Answer<A>, AllocError>
     ensures { IfOk result (IsFaultAnswer format name.now fault) }
 {
     match format {
-        Format::Text => fault_answer(alloc, name, fault),
+        Format::Text => refused_answer(alloc, Status::No, name, bytes, fault),
         Format::Json => {
-            let cause = fault.cause.to_string(alloc)?;
-            let line = json_fault_line(alloc, name, fault.pos, cause.as_str())?;
+            let text = explained(alloc, bytes, fault)?;
+            let line = json_fault_line(alloc, name, fault, text.as_str())?;
             Ok(Answer::of_lines(alloc, Status::No, line))
         }
         Format::Github => {
-            let cause = fault.cause.to_string(alloc)?;
-            let line = github_line(alloc, name, fault.pos, cause.as_str())?;
+            let text = explained(alloc, bytes, fault)?;
+            let line = github_line(alloc, name, fault, text.as_str())?;
             Ok(Answer::of_lines(alloc, Status::No, line))
         }
-    }
-}
-
-/// The answer for a file that can't be accepted, unless memory ran out.
-fn error_answer<A: Allocator + Copy>(
-    alloc: A,
-    format: Format,
-    name: &str,
-    error: ObjectError,
-) -> Result<Answer<A>, Stop>
-    ensures { IfOk result (λ answer. (fault : ObjectFault)
-        × ((error ≡ Fault fault) × IsFaultAnswer format name.now fault answer)) }
-{
-    match error {
-        ObjectError::Fault(fault) => Ok(refused_answer(alloc, format, name, fault)?),
-        ObjectError::Memory => Err(Stop::Memory),
     }
 }
 
 /// The answer for the bytes of a file. With a target it also reports instructions that are in none
-/// of its groups.
+/// of its groups. Source lines are looked for until 64 MiB may have been gone through for them.
 ///
 /// # Errors
 ///
@@ -283,7 +201,11 @@ pub fn check_answer<A: Allocator + Copy>(
     ensures { IfOk result (IsCheckAnswer format target name.now bytes.now) }
 {
     match AcceptedObject::read(alloc, bytes) {
-        Ok(object) => Ok(accepted_answer(alloc, format, target, name, &object)?),
-        Err(error) => error_answer(alloc, format, name, error),
+        Ok(object) => {
+            let most = most_sources(bytes);
+            Ok(accepted_answer(alloc, format, target, name, &object, most)?)
+        }
+        Err(ObjectError::Fault(fault)) => Ok(fault_answer(alloc, format, name, bytes, fault)?),
+        Err(ObjectError::Memory) => Err(Stop::Memory),
     }
 }

@@ -1,23 +1,25 @@
 //! The lines of `check` for what is reported of code.
 
-ghost use Rattle.std.specs.Prelude.{◌≡◌, ◌<◌, ◌++◌, Option, IfOk, OnOk, option_map, string_bytes};
+ghost use Rattle.std.specs.Prelude.{◌≡◌, ◌<◌, ◌≤◌, ℕ, IfOk, option_map, string_bytes};
 ghost use Rattle.bpf_elf.specs.Numbers.{count};
 ghost use Rattle.bpf_object.specs.SourceLines.{line_value};
 ghost use Rattle.bpfcanon_object.specs.Code as code_spec;
 ghost use Rattle.bpfcanon_object.specs.Code.{AreCodeLines, IsFoundIn};
 ghost use Rattle.bpfcanon_object.specs.Formats as spec;
-ghost use Rattle.bpfcanon_object.specs.declared.finding.Finding.{Finding};
 
-use crate::check::{Format, Part, github_text, json_line, json_text};
+use crate::check::Format;
 use crate::code::found_in;
 use crate::escape::escaped;
 use crate::finding::Finding;
+use crate::github::{Part, github_text};
+use crate::json::{json_line, json_text};
 use crate::sources::{github_source, json_source, known, text_source};
+use bpf_elf::FILE_LIMIT;
 use bpf_insn::GroupSet;
 use bpf_object::{AcceptedObject, SourceLine};
 use std::alloc::{AllocError, Allocator};
 
-/// A location in a section, and why it is reported: `SECTION+0xOFFSET: REASON`.
+/// A location in a section, and why it is reported: `SECTION+0xOFFSET: CAUSE: TEXT`.
 fn code_location<A: Allocator + Copy>(
     alloc: A,
     section: &str,
@@ -27,8 +29,9 @@ fn code_location<A: Allocator + Copy>(
 {
     let section = escaped(alloc, section)?;
     let Finding { pos, reason } = found;
-    let reason = reason.text(alloc)?;
-    format!(in alloc; "{section}+0x{pos:x}: {reason}")
+    let cause = reason.name();
+    let text = reason.text(alloc)?;
+    format!(in alloc; "{section}+0x{pos:x}: {cause}: {text}")
 }
 
 /// The members of a JSON object for a location in a section, why it is reported, and its source line.
@@ -43,9 +46,12 @@ fn json_code<A: Allocator + Copy>(
 {
     let section = json_text(alloc, section)?;
     let Finding { pos, reason } = found;
-    let reason = reason.text(alloc)?;
+    let cause = reason.name();
+    let text = reason.text(alloc)?;
     let source = json_source(alloc, source)?;
-    format!(in alloc; "\"section\":\"{section}\",\"offset\":{pos},\"text\":\"{reason}\"{source}")
+    format!(in alloc;
+        "\"section\":\"{section}\",\"offset\":{pos},\"cause\":\"{cause}\",\"text\":\"{text}\"{source}"
+    )
 }
 
 /// The line for what is reported of a section.
@@ -82,6 +88,31 @@ fn code_line<A: Allocator + Copy>(
     }
 }
 
+/// How often a source line is looked for in a file: each time all of it may be gone through, which is
+/// so done with 64 MiB, or one file.
+pub fn most_sources(bytes: &[u8]) -> usize
+    ensures { result ≡ code_spec.most_sources bytes.now }
+{
+    1 + FILE_LIMIT / (1 + bytes.len())
+}
+
+/// The source line for what is reported of a section, if it is looked for.
+fn source_if<'a>(
+    object: &'a AcceptedObject<'_>,
+    i: usize,
+    found: Finding,
+    is_sought: bool,
+) -> Option<SourceLine<'a>>
+    ensures { option_map line_value result
+        ≡ code_spec.source_if is_sought object.now i found }
+{
+    if is_sought {
+        known(object.source_line(i, found.pos))
+    } else {
+        None
+    }
+}
+
 /// The line for what is reported of a section, if anything is.
 fn line_if<A: Allocator + Copy>(
     alloc: A,
@@ -89,60 +120,62 @@ fn line_if<A: Allocator + Copy>(
     name: &str,
     object: &AcceptedObject<'_>,
     i: usize,
+    is_sought: bool,
     found: Option<Finding>,
 ) -> Result<String<A>, AllocError>
     requires { i < count object.now }
     ensures { IfOk result (λ line.
-        string_bytes line ≡ code_spec.line_if format name.now object.now i found) }
+        string_bytes line ≡ code_spec.line_if format name.now object.now i is_sought found) }
 {
     match found {
         Some(found) => {
             let section = String::from_utf8_lossy(alloc, object.elf().name(i))?;
-            let source = known(object.source_line(i, found.pos));
+            let source = source_if(object, i, found, is_sought);
             code_line(alloc, format, name, section.as_str(), found, source)
         }
         None => Ok(String::new(alloc)),
     }
 }
 
-/// The line for a section of a file, if anything is reported of it.
-fn section_line<A: Allocator + Copy>(
-    alloc: A,
-    format: Format,
-    target: Option<GroupSet>,
-    name: &str,
-    object: &AcceptedObject<'_>,
-    i: usize,
-) -> Result<String<A>, AllocError>
+/// What is reported of a section, if anything is.
+fn finding(target: Option<GroupSet>, object: &AcceptedObject<'_>, i: usize) -> Option<Finding>
     requires { i < count object.now }
-    ensures { IfOk result (λ line. (found : Option Finding) × (IsFoundIn target object.now i found
-        × (string_bytes line ≡ code_spec.line_if format name.now object.now i found))) }
+    ensures { IsFoundIn target object.now i result }
 {
-    line_if(
-        alloc,
-        format,
-        name,
-        object,
-        i,
-        found_in(target, object.elf(), i),
-    )
+    found_in(target, object.elf(), i)
 }
 
-/// The lines for what is reported of all sections.
+/// How many findings a section has.
+fn count_of(found: Option<Finding>) -> usize
+    ensures number { result ≡ code_spec.count_of found }
+    ensures one { result ≤ 1 }
+{
+    match found {
+        Some(_) => 1,
+        None => 0,
+    }
+}
+
+/// The lines for what is reported of all sections. For the first `most` of them a source line is looked
+/// for: each time .BTF.ext may be gone through.
 pub fn code_lines<A: Allocator + Copy>(
     alloc: A,
     format: Format,
     target: Option<GroupSet>,
     name: &str,
     object: &AcceptedObject<'_>,
+    most: usize,
 ) -> Result<String<A>, AllocError>
-    ensures { IfOk result (λ lines. AreCodeLines format target name.now object.now
-        (count object.now) (string_bytes lines)) }
+    ensures { IfOk result (λ lines. (seen : ℕ) × AreCodeLines format target name.now most object.now
+        (count object.now) seen (string_bytes lines)) }
 {
     let mut lines = String::new(alloc);
+    let mut seen = 0;
     for i in 0..object.elf().section_count() {
-        let line = section_line(alloc, format, target, name, object, i)?;
+        let found = finding(target, object, i);
+        let line = line_if(alloc, format, name, object, i, seen < most, found)?;
         lines.push_str(line.as_str())?;
+        seen += count_of(found);
     }
     Ok(lines)
 }

@@ -1,7 +1,8 @@
 //! Names of files as they are printed: nothing in them acts on a terminal or a log.
 //!
-//! A name may hold any character but NUL. Control characters (general category Cc) are written with
-//! a backslash, and so is the backslash itself, so that each name has a text of its own.
+//! A name may hold any character but NUL. Control characters (general category Cc) and format
+//! characters (Cf, Zl and Zp), some of which change the direction of what follows, are written with a
+//! backslash, and so is the backslash itself, so that each name has a text of its own.
 
 ghost use Rattle.std.specs.Prelude.{◌≡◌, ◌<◌, ◌≤◌, ◌++◌, ◌∷◌, ℕ, List, length, true, false};
 ghost use Rattle.std.specs.Prelude.{IfOk, IfSome, IsSome, MatchOption, OnOk, Some, string_bytes};
@@ -23,14 +24,12 @@ fn digit(n: u8) -> char
     }
 }
 
-/// Appends the number of a control character in two hexadecimal digits.
-pub fn push_digits<A: Allocator>(out: &mut String<A>, c: char) -> Result<(), AllocError>
-    requires { spec.is_control c ≡ true }
-    ensures { OnOk result (string_bytes out.new ≡ string_bytes out.old ++ spec.two_digits c) }
+/// Appends a byte in two hexadecimal digits.
+pub fn push_digits<A: Allocator>(out: &mut String<A>, byte: u8) -> Result<(), AllocError>
+    ensures { OnOk result (string_bytes out.new ≡ string_bytes out.old ++ spec.two_digits byte) }
 {
-    let code = c as u8;
-    out.push(digit(code / 16))?;
-    out.push(digit(code % 16))
+    out.push(digit(byte / 16))?;
+    out.push(digit(byte % 16))
 }
 
 /// Appends a control character.
@@ -39,7 +38,19 @@ fn push_control<A: Allocator>(out: &mut String<A>, c: char) -> Result<(), AllocE
     ensures { OnOk result (string_bytes out.new ≡ string_bytes out.old ++ spec.numbered c) }
 {
     out.push_str("\\x")?;
-    push_digits(out, c)
+    push_digits(out, c as u8)
+}
+
+/// Appends a format character.
+fn push_format<A: Allocator>(out: &mut String<A>, c: char) -> Result<(), AllocError>
+    ensures { OnOk result (string_bytes out.new ≡ string_bytes out.old ++ spec.numbered_format c) }
+{
+    let code = c as u32;
+    out.push_str("\\u{")?;
+    push_digits(out, (code / 0x1_0000) as u8)?;
+    push_digits(out, (code % 0x1_0000 / 0x100) as u8)?;
+    push_digits(out, (code % 0x1_0000 % 0x100) as u8)?;
+    out.push('}')
 }
 
 /// Appends a character of a name.
@@ -51,19 +62,60 @@ fn push_char<A: Allocator>(out: &mut String<A>, c: char) -> Result<(), AllocErro
         '\n' => out.push_str("\\n"),
         '\r' => out.push_str("\\r"),
         _ if is_control(c) => push_control(out, c),
+        _ if is_format(c) => push_format(out, c),
         _ => out.push(c),
     }
 }
 
 /// Whether a terminal may act on a character: the general category Cc.
-pub fn is_control(c: char) -> bool
+fn is_control(c: char) -> bool
     ensures { result ≡ spec.is_control c }
 {
     c < ' ' || ('\x7f' <= c && c < '\u{a0}')
 }
 
-/// A name without control characters. It is the name itself if that has neither control characters
-/// nor backslashes.
+/// The first and the last of each run of characters of the categories Cf, Zl and Zp.
+const FORMAT_CHARACTERS: [(char, char); 21] = [
+    ('\u{ad}', '\u{ad}'),
+    ('\u{600}', '\u{605}'),
+    ('\u{61c}', '\u{61c}'),
+    ('\u{6dd}', '\u{6dd}'),
+    ('\u{70f}', '\u{70f}'),
+    ('\u{890}', '\u{891}'),
+    ('\u{8e2}', '\u{8e2}'),
+    ('\u{180e}', '\u{180e}'),
+    ('\u{200b}', '\u{200f}'),
+    ('\u{2028}', '\u{202e}'),
+    ('\u{2060}', '\u{2064}'),
+    ('\u{2066}', '\u{206f}'),
+    ('\u{feff}', '\u{feff}'),
+    ('\u{fff9}', '\u{fffb}'),
+    ('\u{110bd}', '\u{110bd}'),
+    ('\u{110cd}', '\u{110cd}'),
+    ('\u{13430}', '\u{1343f}'),
+    ('\u{1bca0}', '\u{1bca3}'),
+    ('\u{1d173}', '\u{1d17a}'),
+    ('\u{e0001}', '\u{e0001}'),
+    ('\u{e0020}', '\u{e007f}'),
+];
+
+/// Whether a character may change how the text beside it is shown: the general categories Cf, Zl
+/// and Zp.
+fn is_format(c: char) -> bool
+    ensures { result ≡ spec.is_format c }
+{
+    FORMAT_CHARACTERS.iter().any(|run| run.0 <= c && c <= run.1)
+}
+
+/// Whether a character isn't printed as it is.
+pub fn is_hidden(c: char) -> bool
+    ensures { result ≡ spec.is_hidden c }
+{
+    is_control(c) || is_format(c)
+}
+
+/// A name without control and format characters. It is the name itself if that has none of them and
+/// no backslashes.
 pub fn escaped<A: Allocator>(alloc: A, name: &str) -> Result<String<A>, AllocError>
     ensures text { IfOk result (λ text. string_bytes text ≡ spec.escaped name.now) }
     ensures shown { IfOk result (λ text. spec.IsPrintable (string_bytes text)) }
@@ -98,16 +150,43 @@ fn digit_in(chars: &mut Chars) -> Option<u32>
     chars.next()?.to_digit(16)
 }
 
+/// The byte that the next two digits are.
+fn byte_in(chars: &mut Chars) -> Option<u32>
+    ensures all { (n : ℕ) (behind : List ℕ) → n < 256
+        → chars_rest chars.old ≡ spec.two_digits n ++ behind
+        → (result ≡ Some n) × (chars_rest chars.new ≡ behind) }
+    ensures byte { IfSome result (λ n. n < 256) }
+    ensures shorter { length (chars_rest chars.new) ≤ length (chars_rest chars.old) }
+{
+    let high = digit_in(chars)?;
+    let low = digit_in(chars)?;
+    Some(16 * high + low)
+}
+
 /// The character with the number that the next two digits are.
-fn numbered_in(chars: &mut Chars) -> Option<char>
+fn control_in(chars: &mut Chars) -> Option<char>
     ensures all { (c : ℕ) (behind : List ℕ) → spec.is_control c ≡ true
         → chars_rest chars.old ≡ spec.two_digits c ++ behind
         → (result ≡ Some c) × (chars_rest chars.new ≡ behind) }
     ensures shorter { length (chars_rest chars.new) ≤ length (chars_rest chars.old) }
 {
-    let high = digit_in(chars)?;
-    let low = digit_in(chars)?;
-    char::from_u32(16 * high + low)
+    char::from_u32(byte_in(chars)?)
+}
+
+/// The character with the number that the next six digits in braces are. The caller compares the
+/// braces.
+fn format_in(chars: &mut Chars) -> Option<char>
+    ensures all { (c : ℕ) (behind : List ℕ) → spec.is_format c ≡ true
+        → chars_rest chars.old ≡ 123 ∷ (spec.six_digits c ++ (125 ∷ behind))
+        → (result ≡ Some c) × (chars_rest chars.new ≡ behind) }
+    ensures shorter { length (chars_rest chars.new) ≤ length (chars_rest chars.old) }
+{
+    let _open = chars.next()?;
+    let high = byte_in(chars)?;
+    let middle = byte_in(chars)?;
+    let low = byte_in(chars)?;
+    let _close = chars.next()?;
+    char::from_u32(0x1_0000 * high + 0x100 * middle + low)
 }
 
 /// The character that is written as a backslash and the next characters.
@@ -121,7 +200,8 @@ fn escape_in(chars: &mut Chars) -> Option<char>
         '\\' => Some('\\'),
         'n' => Some('\n'),
         'r' => Some('\r'),
-        'x' => numbered_in(chars),
+        'x' => control_in(chars),
+        'u' => format_in(chars),
         _ => None,
     }
 }

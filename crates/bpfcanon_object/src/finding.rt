@@ -16,13 +16,23 @@ pub enum Reason {
 }
 
 impl Reason {
-    /// The name of the cause, or the group that the target lacks.
+    /// The name of the cause. That of an instruction outside the target is `Target`.
+    pub fn name(self) -> &'static str
+        ensures { result.now ≡ spec.reason_name self }
+    {
+        match self {
+            Reason::Fault(cause) => cause.name(),
+            Reason::Outside(_) => "Target",
+        }
+    }
+
+    /// The sentence of the cause, or the group that the target lacks.
     pub fn text<A: Allocator>(self, alloc: A) -> Result<String<A>, AllocError>
         ensures { IfOk result (λ text. string_bytes text ≡ spec.reason_text self) }
     {
         match self {
-            Reason::Fault(cause) => String::from_str(alloc, cause.name()),
-            Reason::Outside(group) => format!(in alloc; "needs {group}"),
+            Reason::Fault(cause) => String::from_str(alloc, cause.describe()),
+            Reason::Outside(group) => format!(in alloc; "the target lacks {group}"),
         }
     }
 }

@@ -4,9 +4,10 @@ ghost use Rattle.std.specs.Prelude.{◌≡◌, IfOk, string_bytes};
 ghost use Rattle.bpfcanon_object.specs.Answers.{IsKeyAnswer};
 ghost use Rattle.bpfcanon_object.specs.KeyLines as spec;
 
-use crate::answer::{Answer, Status, fault_answer};
+use crate::answer::{Answer, Status, refused_answer};
+use crate::desk::Stop;
 use crate::escape::escaped;
-use bpf_object::ObjectFault;
+use bpf_object::{ObjectError, object_key};
 use std::alloc::{AllocError, Allocator};
 
 /// A key: the SHA-256 of a canonical file.
@@ -27,19 +28,30 @@ pub fn key_line<A: Allocator + Copy>(
     format!(in alloc; "{mark}{digits}  {text}\n")
 }
 
-/// The answer for a file with a key, or without one.
+/// The answer for the bytes of a file: its key, or its fault.
+///
+/// # Errors
+///
+/// `Memory` if memory can't be allocated.
 pub fn key_answer<A: Allocator + Copy>(
     alloc: A,
     name: &str,
-    key: Result<Key, ObjectFault>,
-) -> Result<Answer<A>, AllocError>
-    ensures { IfOk result (IsKeyAnswer name.now key) }
+    bytes: &[u8],
+) -> Result<Answer<A>, Stop>
+    ensures { IfOk result (IsKeyAnswer name.now bytes.now) }
 {
-    match key {
+    match object_key(alloc, bytes) {
         Ok(key) => {
             let line = key_line(alloc, key, name)?;
             Ok(Answer::of_lines(alloc, Status::Yes, line))
         }
-        Err(fault) => fault_answer(alloc, name, fault),
+        Err(ObjectError::Fault(fault)) => Ok(refused_answer(
+            alloc,
+            Status::No,
+            name,
+            bytes,
+            fault,
+        )?),
+        Err(ObjectError::Memory) => Err(Stop::Memory),
     }
 }

@@ -4,14 +4,17 @@ ghost use Rattle.std.specs.Prelude.{◌≡◌, ◌≢◌, ◌++◌, [], ◌∷�
 ghost use Rattle.std.specs.Prelude.{IfOk, IfSome, IsSome, MatchOption, codes, length, slice_index};
 ghost use Rattle.std.specs.{Prelude.string_bytes, Str.IsUtf8, Str.bytes_eq};
 ghost use Rattle.hex.specs.Hex.{IsBytes, encode_lower};
-ghost use Rattle.bpfcanon_object.specs.Answers.{IsRowAnswer, IsUnreadRowAnswer};
+ghost use Rattle.bpfcanon_object.specs.Answers.{IsComparedRow, IsRefused, IsRowAnswer};
+ghost use Rattle.bpfcanon_object.specs.Answers.{IsUnreadRowAnswer};
+ghost use Rattle.bpfcanon_object.specs.declared.answer.Status.TheVariants.{No};
 ghost use Rattle.bpfcanon_object.specs.Escape.{escaped};
 ghost use Rattle.bpfcanon_object.specs.KeyLines as spec;
 
-use crate::answer::{Answer, Status, fault_answer, trouble_answer};
+use crate::answer::{Answer, Status, refused_answer, trouble_answer};
+use crate::desk::Stop;
 use crate::escape::{marked, unescaped};
 use crate::key::{Key, key_line};
-use bpf_object::ObjectFault;
+use bpf_object::{ObjectError, ObjectFault, object_key};
 use hex::FromHex;
 use std::alloc::{AllocError, Allocator, Global};
 
@@ -93,31 +96,57 @@ pub fn read_row<A: Allocator + Copy>(alloc: A, line: &str) -> Result<Option<Row<
     Ok(Some(Row { key, name }))
 }
 
-/// The answer for a file that was read: its name, and whether it has the key of its row. What is
+/// The answer for a file that is refused.
+fn refused_row<A: Allocator + Copy>(
+    alloc: A,
+    name: &str,
+    bytes: &[u8],
+    fault: ObjectFault,
+) -> Result<Answer<A>, AllocError>
+    ensures { IfOk result (IsRefused No name.now fault (spec.row_line name.now (codes "FAILED"))) }
+{
+    let text = marked(alloc, name)?;
+    let mut answer = refused_answer(alloc, Status::No, name, bytes, fault)?;
+    answer.lines = format!(in alloc; "{text}: FAILED\n")?;
+    Ok(answer)
+}
+
+/// The answer for a file that has a key.
+fn compared_row<A: Allocator + Copy>(
+    alloc: A,
+    name: &str,
+    is_right: bool,
+) -> Result<Answer<A>, AllocError>
+    ensures { IfOk result (IsComparedRow name.now is_right) }
+{
+    let text = marked(alloc, name)?;
+    let (status, word) = if is_right {
+        (Status::Yes, "OK")
+    } else {
+        (Status::No, "FAILED")
+    };
+    let line = format!(in alloc; "{text}: {word}\n")?;
+    Ok(Answer::of_lines(alloc, status, line))
+}
+
+/// The answer for the bytes of a file: its name, and whether it has the key of its row. What is
 /// refused has no key.
+///
+/// # Errors
+///
+/// `Memory` if memory can't be allocated.
 pub fn row_answer<A: Allocator + Copy>(
     alloc: A,
     name: &str,
     wanted: Key,
-    key: Result<Key, ObjectFault>,
-) -> Result<Answer<A>, AllocError>
-    ensures { IfOk result (IsRowAnswer name.now wanted key) }
+    bytes: &[u8],
+) -> Result<Answer<A>, Stop>
+    ensures { IfOk result (IsRowAnswer name.now wanted bytes.now) }
 {
-    let text = marked(alloc, name)?;
-    match key {
-        Ok(key) if key == wanted => {
-            let line = format!(in alloc; "{text}: OK\n")?;
-            Ok(Answer::of_lines(alloc, Status::Yes, line))
-        }
-        Ok(_) => {
-            let line = format!(in alloc; "{text}: FAILED\n")?;
-            Ok(Answer::of_lines(alloc, Status::No, line))
-        }
-        Err(fault) => {
-            let mut answer = fault_answer(alloc, name, fault)?;
-            answer.lines = format!(in alloc; "{text}: FAILED\n")?;
-            Ok(answer)
-        }
+    match object_key(alloc, bytes) {
+        Ok(key) => Ok(compared_row(alloc, name, key == wanted)?),
+        Err(ObjectError::Fault(fault)) => Ok(refused_row(alloc, name, bytes, fault)?),
+        Err(ObjectError::Memory) => Err(Stop::Memory),
     }
 }
 

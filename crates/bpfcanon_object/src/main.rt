@@ -3,16 +3,27 @@
 #![tactic(auto)]
 
 mod answer;
+mod args;
+mod canon;
+mod cause;
 mod check;
 mod code;
 mod code_lines;
 mod desk;
+mod each;
 mod escape;
 mod files;
 mod finding;
 mod folder;
+mod github;
+mod hint;
+mod json;
 mod key;
 mod key_list;
+mod machine;
+mod peek;
+mod reason;
+mod remark;
 mod run;
 mod same;
 mod sources;
@@ -20,18 +31,18 @@ mod target;
 mod words;
 
 use crate::answer::Status;
+use crate::args::read_words;
 use crate::check::Format;
 use crate::desk::{Desk, Stop};
 use crate::escape::escaped;
+use crate::hint::hint;
 use crate::run::run;
 use crate::target::group_names;
-use crate::words::{Request, program, request_of};
+use crate::words::{Request, program, request_of, shown_word};
 use clap::error::ErrorKind;
 use std::alloc::{AllocError, Global};
 use std::fmt::Display;
 use std::process::ExitCode;
-use std::rt::Env;
-use std::{env, io};
 
 /// Reports why the program ends without an answer.
 fn report<T: Display + Drop>(rt: &impl Eprint, why: T) -> Status {
@@ -43,7 +54,7 @@ fn report<T: Display + Drop>(rt: &impl Eprint, why: T) -> Status {
 fn printed(alloc: Global, words: &[String]) -> Result<Vec<String>, AllocError> {
     let mut shown = Vec::new(alloc);
     for word in words {
-        shown.push(escaped(alloc, word.as_str())?)?;
+        shown.push(escaped(alloc, shown_word(word.as_str()))?)?;
     }
     Ok(shown)
 }
@@ -60,10 +71,12 @@ fn explain<R: Print + Eprint + AllocGlobal>(rt: &R, words: &[String]) -> Result<
     if error.print(rt).is_err() {
         return Err(Stop::WriteFailed);
     }
-    Ok(if error.use_stderr() {
-        Status::Trouble
-    } else {
-        Status::Yes
+    if !error.use_stderr() {
+        return Ok(Status::Yes);
+    }
+    Ok(match hint(words) {
+        Some(more) => report(rt, more),
+        None => Status::Trouble,
     })
 }
 
@@ -78,8 +91,19 @@ fn run_request(rt: &HostRuntime, request: Request<'_>) -> Result<Status, Stop> {
     Ok(desk.status)
 }
 
+/// Whether the word behind the name of the program is `version`, and the last one.
+fn asks_version(words: &[String]) -> bool {
+    match words.get(1) {
+        Some(word) => word.as_str() == "version" && words.len() == 2,
+        None => false,
+    }
+}
+
 /// Runs a command line.
 fn run_words(rt: &HostRuntime, words: &[String]) -> Result<Status, Stop> {
+    if asks_version(words) {
+        return run_request(rt, Request::Version);
+    }
     let groups = group_names(rt.alloc())?;
     let command = program(rt.alloc(), Format::NAMES.as_slice(), groups.as_slice())?;
     match command.try_get_matches_from(words) {
@@ -94,26 +118,16 @@ fn run_words(rt: &HostRuntime, words: &[String]) -> Result<Status, Stop> {
     }
 }
 
-/// The words of the command line of the process.
-fn read_words<R: Env + AllocGlobal>(rt: &R) -> io::Result<Vec<String>> {
-    Ok(env::args(rt)?.collect(rt.alloc())?)
-}
-
-/// Runs the command line of the process, if its words are text.
-fn run_process(rt: &HostRuntime) -> Status {
-    let words = match read_words(rt) {
-        Ok(words) => words,
-        Err(error) if error.kind() == io::ErrorKind::InvalidData => {
-            return report(rt, "the arguments aren't text");
-        }
-        Err(error) => return report(rt, error),
-    };
-    match run_words(rt, words.as_slice()) {
-        Ok(status) => status,
-        Err(stop) => report(rt, stop),
-    }
+/// Runs the command line of the process.
+fn run_process(rt: &HostRuntime) -> Result<Status, Stop> {
+    let words = read_words(rt)?;
+    run_words(rt, words.as_slice())
 }
 
 fn main(rt: HostRuntime) -> ExitCode {
-    ExitCode::from(run_process(&rt).code())
+    let status = match run_process(&rt) {
+        Ok(status) => status,
+        Err(stop) => report(&rt, stop),
+    };
+    ExitCode::from(status.code())
 }

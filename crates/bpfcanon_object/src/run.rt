@@ -1,52 +1,27 @@
 //! Runs a command line: reads files, and puts an answer for each on the desk.
 
-use crate::answer::{Answer, fault_answer, trouble_answer};
-use crate::check::{Format, check_answer};
+use crate::answer::{Answer, trouble_answer};
+use crate::canon::canon_answer;
+use crate::check::Format;
 use crate::desk::{Desk, Stop};
+use crate::each::Each;
 use crate::files::{STANDARD, read_file, write_file};
-use crate::folder::Folder;
-use crate::key::{Key, key_answer};
+use crate::folder::{Folder, read_object};
+use crate::key::Key;
 use crate::key_list::{read_row, row_answer, unread_row_answer};
+use crate::reason::reason_of;
 use crate::same::same_answer;
 use crate::target::target_of;
-use crate::words::Request;
-use bpf_insn::GroupSet;
-use bpf_object::{ObjectError, ObjectFault, SameError, canon_object, object_key, same_objects};
+use crate::words::{Request, VERSION, shown_word};
 use std::alloc::Global;
 use std::io::{Error, Write};
 use std::rt::Files;
 use std::{fs, str};
 
-/// A verb that answers for each file by itself.
-#[derive(Clone, Copy)]
-enum Each {
-    Key,
-    Check(Format, Option<GroupSet>),
-}
-
-/// A result of the library without the error of memory, which ends the program.
-fn judged<T>(found: Result<T, ObjectError>) -> Result<Result<T, ObjectFault>, Stop> {
-    match found {
-        Ok(value) => Ok(Ok(value)),
-        Err(ObjectError::Fault(fault)) => Ok(Err(fault)),
-        Err(ObjectError::Memory) => Err(Stop::Memory),
-    }
-}
-
-impl Each {
-    /// The answer for the bytes of a file.
-    fn answer(self, alloc: Global, name: &str, bytes: &[u8]) -> Result<Answer, Stop> {
-        match self {
-            Each::Key => Ok(key_answer(alloc, name, judged(object_key(alloc, bytes))?)?),
-            Each::Check(format, target) => check_answer(alloc, format, target, name, bytes),
-        }
-    }
-}
-
 /// The answer for a file that can't be read or written.
 fn error_answer(alloc: Global, name: &str, error: &Error) -> Result<Answer, Stop> {
-    let why = error.to_string(alloc)?;
-    Ok(trouble_answer(alloc, name, why.as_str())?)
+    let why = reason_of(alloc, error)?;
+    Ok(trouble_answer(alloc, shown_word(name), why.as_str())?)
 }
 
 fn run_file<R: Files + Input + AllocGlobal, O: Write, E: Write>(
@@ -62,22 +37,41 @@ fn run_file<R: Files + Input + AllocGlobal, O: Write, E: Write>(
     desk.put(&answer)
 }
 
-fn run_folder<R: Files + Input + AllocGlobal + Clone + Drop, O: Write, E: Write>(
+/// Answers for a file in a folder, if it is a BPF object file, and says whether it did.
+fn run_member<R: Files + AllocGlobal, O: Write, E: Write>(
+    rt: &R,
+    desk: &mut Desk<O, E>,
+    each: Each,
+    name: &str,
+) -> Result<bool, Stop> {
+    let answer = match read_object(rt, name) {
+        Ok(Some(bytes)) => each.answer(rt.alloc(), name, bytes.as_slice())?,
+        Ok(None) => return Ok(false),
+        Err(error) => error_answer(rt.alloc(), name, &error)?,
+    };
+    desk.put(&answer)?;
+    Ok(true)
+}
+
+fn run_folder<R: Files + AllocGlobal + Clone + Drop, O: Write, E: Write>(
     rt: &R,
     desk: &mut Desk<O, E>,
     each: Each,
     name: &str,
 ) -> Result<(), Stop> {
     let folder = Folder::read(rt, name)?;
-    if folder.objects.is_empty() && folder.unreadable.is_empty() {
-        let answer = trouble_answer(rt.alloc(), name, "there is no object file in this folder")?;
-        return desk.put(&answer);
-    }
     for (name, error) in &folder.unreadable {
         desk.put(&error_answer(rt.alloc(), name.as_str(), error)?)?;
     }
-    for name in &folder.objects {
-        run_file(rt, desk, each, name.as_str())?;
+    let mut is_empty = folder.unreadable.is_empty();
+    for name in &folder.files {
+        if run_member(rt, desk, each, name.as_str())? {
+            is_empty = false;
+        }
+    }
+    if is_empty {
+        let why = "there is no BPF object file in this folder";
+        desk.put(&trouble_answer(rt.alloc(), name, why)?)?;
     }
     Ok(())
 }
@@ -131,25 +125,11 @@ fn run_canon<R: Files + Input + AllocGlobal, O: Write, E: Write>(
 ) -> Result<(), Stop> {
     let alloc = rt.alloc();
     match read_file(rt, file) {
-        Ok(bytes) => match judged(canon_object(alloc, bytes.as_slice()))? {
+        Ok(bytes) => match canon_answer(alloc, file, bytes.as_slice())? {
             Ok(canonical) => put_canonical(rt, desk, output, canonical.as_slice()),
-            Err(fault) => desk.put(&fault_answer(alloc, file, fault)?),
+            Err(answer) => desk.put(&answer),
         },
         Err(error) => desk.put(&error_answer(alloc, file, &error)?),
-    }
-}
-
-/// The answer for the bytes of two files.
-fn answer_for_two(
-    alloc: Global,
-    first: (&str, &[u8]),
-    second: (&str, &[u8]),
-) -> Result<Answer, Stop> {
-    match same_objects(alloc, first.1, second.1) {
-        Ok(is_same) => Ok(same_answer(alloc, is_same)?),
-        Err(SameError::First(fault)) => Ok(fault_answer(alloc, first.0, fault)?),
-        Err(SameError::Second(fault)) => Ok(fault_answer(alloc, second.0, fault)?),
-        Err(SameError::Memory) => Err(Stop::Memory),
     }
 }
 
@@ -171,7 +151,8 @@ fn run_same<R: Files + Input + AllocGlobal, O: Write, E: Write>(
         Ok(bytes) => bytes,
         Err(error) => return desk.put(&error_answer(alloc, second, &error)?),
     };
-    desk.put(&answer_for_two(alloc, (first, one.as_slice()), (second, other.as_slice()))?)
+    let answer = same_answer(alloc, first, one.as_slice(), second, other.as_slice())?;
+    desk.put(&answer)
 }
 
 /// Compares the file of a row with its key.
@@ -183,12 +164,9 @@ fn run_row<R: Files + Input + AllocGlobal, O: Write, E: Write>(
 ) -> Result<(), Stop> {
     let alloc = rt.alloc();
     match read_file(rt, name) {
-        Ok(bytes) => {
-            let key = judged(object_key(alloc, bytes.as_slice()))?;
-            desk.put(&row_answer(alloc, name, wanted, key)?)
-        }
+        Ok(bytes) => desk.put(&row_answer(alloc, name, wanted, bytes.as_slice())?),
         Err(error) => {
-            let why = error.to_string(alloc)?;
+            let why = reason_of(alloc, &error)?;
             desk.put(&unread_row_answer(alloc, name, why.as_str())?)
         }
     }
@@ -277,5 +255,6 @@ pub fn run<R: Files + Input + AllocGlobal + Clone + Drop, O: Write, E: Write>(
             groups,
             files,
         } => run_check(rt, desk, format, groups, files),
+        Request::Version => desk.put_bytes(VERSION.as_bytes()),
     }
 }

@@ -5,18 +5,35 @@ use clap::{Arg, ArgAction, ArgMatches, Command};
 use std::alloc::{AllocError, Global};
 
 /// The version of the program.
-const VERSION: &str = "0.1.0";
+const NUMBER: &str = "0.1.0";
+
+/// What `--version` prints.
+pub const VERSION: &str = "bpfcanon-object 0.1.0\n";
+
+/// Ends the text of a word that isn't UTF-8. No word of a process has it.
+pub const NOT_TEXT: char = '\0';
+
+/// A word as it is printed.
+pub fn shown_word(word: &str) -> &str {
+    word.strip_suffix(NOT_TEXT).unwrap_or(word)
+}
 
 const ABOUT: &str = "Canonical files and keys of BPF object files, and whether a file has one.";
 
+/// What is said of the verbs of another program.
+pub const REVIEW: &str = "bpfcanon-review has diff, show and list";
+
 const STATUSES: &str = "\
-FILE is an object file, or - for standard input; for key and check also a folder, which stands for
-all object files in it and in the folders in it.
+FILE is an object file, or - for standard input. For key and check it may also be a folder, which
+stands for all BPF object files in it and in the folders in it.
 
 Exit status:
   0  yes: accepted, the same
   1  no: a file is refused, its code has a fault or isn't in the target, or two differ
-  2  no answer: the arguments, a file that can't be read or written, or memory";
+  2  no answer: the arguments, a file that can't be read or written, memory, or for same a file that
+     is refused
+
+bpfcanon-review shows what two object files differ in.";
 
 /// What a command line asks for. Names are as they were given.
 #[derive(Clone, Copy)]
@@ -48,14 +65,19 @@ pub enum Request<'a> {
         /// The files.
         files: &'a [&'a str],
     },
+    /// `version`.
+    Version,
 }
 
-fn file_arg<'a>(alloc: Global, id: &'a str) -> Arg<'a> {
-    Arg::new(alloc, id).value_name("FILE").required(true)
+fn file_arg<'a>(alloc: Global, id: &'a str, help: &'a str) -> Arg<'a> {
+    Arg::new(alloc, id)
+        .value_name("FILE")
+        .required(true)
+        .help(help)
 }
 
-fn files_arg<'a>(alloc: Global) -> Arg<'a> {
-    file_arg(alloc, "files").num_args(1..)
+fn files_arg<'a>(alloc: Global, help: &'a str) -> Arg<'a> {
+    file_arg(alloc, "files", help).num_args(1..)
 }
 
 fn canon_command<'a>(alloc: Global) -> Result<Command<'a>, AllocError> {
@@ -67,7 +89,7 @@ fn canon_command<'a>(alloc: Global) -> Result<Command<'a>, AllocError> {
     Command::new(alloc, "canon")
         .about("Writes the canonical file")
         .arg(output)?
-        .arg(file_arg(alloc, "file"))
+        .arg(file_arg(alloc, "file", "The object file, or - for standard input"))
 }
 
 fn key_command<'a>(alloc: Global) -> Result<Command<'a>, AllocError> {
@@ -79,14 +101,22 @@ fn key_command<'a>(alloc: Global) -> Result<Command<'a>, AllocError> {
     Command::new(alloc, "key")
         .about("Writes the SHA-256 of each canonical file, as sha256sum does")
         .arg(check)?
-        .arg(files_arg(alloc))
+        .arg(files_arg(
+            alloc,
+            "Object files and folders, or - for standard input; with --check lists of keys",
+        ))
 }
 
 fn same_command<'a>(alloc: Global) -> Result<Command<'a>, AllocError> {
     Command::new(alloc, "same")
         .about("Says whether the canonical files of two files are equal")
-        .arg(file_arg(alloc, "first"))?
-        .arg(file_arg(alloc, "second"))
+        .arg(file_arg(
+            alloc,
+            "first",
+            "The first object file, or - for standard input",
+        )
+        .value_name("FIRST"))?
+        .arg(file_arg(alloc, "second", "The second object file, or -").value_name("SECOND"))
 }
 
 fn check_command<'a>(
@@ -112,7 +142,7 @@ fn check_command<'a>(
         )
         .arg(target)?
         .arg(format)?
-        .arg(files_arg(alloc))
+        .arg(files_arg(alloc, "Object files and folders, or - for standard input"))
 }
 
 /// The command line. It borrows the names of the formats and of the groups.
@@ -123,11 +153,10 @@ pub fn program<'a>(
 ) -> Result<Command<'a>, AllocError> {
     Command::new(alloc, "bpfcanon-object")
         .bin_name("bpfcanon-object")?
-        .version(VERSION)
+        .version(NUMBER)
         .about(ABOUT)
         .after_help(STATUSES)
         .subcommand_required(true)
-        .disable_help_subcommand(true)
         .subcommand(canon_command(alloc)?)?
         .subcommand(key_command(alloc)?)?
         .subcommand(same_command(alloc)?)?

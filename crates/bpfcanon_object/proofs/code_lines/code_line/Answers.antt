@@ -1,6 +1,6 @@
 use Rattle.std.proofs.Common.{◌≡◌, ◌∙◌, ℕ, List, IfOk, option_map, string_bytes, subst}
 use Rattle.bpf_object.specs.SourceLines.{line_value}
-use Rattle.bpfcanon_object.specs.Formats.{json_code, json_line}
+use Rattle.bpfcanon_object.specs.{Formats.json_code, Json.json_line}
 use Rattle.bpfcanon_object.proofs.code_lines.code_line.Goals as goal
 
 -- the members are those of the line

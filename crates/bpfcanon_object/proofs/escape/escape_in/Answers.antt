@@ -14,7 +14,8 @@ returns-in-92-clause-all c = λ char behind e.
       | inl h ↦ (ap Some (sym h.1), h.2)
       | inr (inl h) ↦ absurd (omega (arith, is, h.0))
       | inr (inr (inl h)) ↦ absurd (omega (arith, is, h.0))
-      | inr (inr (inr h)) ↦ absurd (omega (arith, is, h.0))
+      | inr (inr (inr (inl h))) ↦ absurd (omega (arith, is, h.0))
+      | inr (inr (inr (inr h))) ↦ absurd (omega (arith, is, h.0))
     ]
 
 pub returns-in-n-clause-all : goal.returns-in-n-clause-all
@@ -25,7 +26,8 @@ returns-in-n-clause-all c = λ char behind e.
       | inl h ↦ absurd (omega (arith, is, h.0))
       | inr (inl h) ↦ (ap Some (sym h.1), h.2)
       | inr (inr (inl h)) ↦ absurd (omega (arith, is, h.0))
-      | inr (inr (inr h)) ↦ absurd (omega (arith, is, h.0))
+      | inr (inr (inr (inl h))) ↦ absurd (omega (arith, is, h.0))
+      | inr (inr (inr (inr h))) ↦ absurd (omega (arith, is, h.0))
     ]
 
 pub returns-in-r-clause-all : goal.returns-in-r-clause-all
@@ -36,7 +38,8 @@ returns-in-r-clause-all c = λ char behind e.
       | inl h ↦ absurd (omega (arith, is, h.0))
       | inr (inl h) ↦ absurd (omega (arith, is, h.0))
       | inr (inr (inl h)) ↦ (ap Some (sym h.1), h.2)
-      | inr (inr (inr h)) ↦ absurd (omega (arith, is, h.0))
+      | inr (inr (inr (inl h))) ↦ absurd (omega (arith, is, h.0))
+      | inr (inr (inr (inr h))) ↦ absurd (omega (arith, is, h.0))
     ]
 
 pub returns-in-x-clause-all : goal.returns-in-x-clause-all
@@ -47,7 +50,20 @@ returns-in-x-clause-all c = λ char behind e.
       | inl h ↦ absurd (omega (arith, is, h.0))
       | inr (inl h) ↦ absurd (omega (arith, is, h.0))
       | inr (inr (inl h)) ↦ absurd (omega (arith, is, h.0))
-      | inr (inr (inr h)) ↦ c.numbered_in.ensures.all char behind h.1 h.2
+      | inr (inr (inr (inl h))) ↦ c.control_in.ensures.all char behind h.1 h.2
+      | inr (inr (inr (inr h))) ↦ absurd (omega (arith, is, h.0))
+    ]
+
+pub returns-in-u-clause-all : goal.returns-in-u-clause-all
+returns-in-u-clause-all c = λ char behind e.
+    let by = escape_by c.in_ok-next.field-0 char _ _ behind c.in_ok-next.ensures.steps.0 e in
+    let is = c.in-u.is in
+    elim by [
+      | inl h ↦ absurd (omega (arith, is, h.0))
+      | inr (inl h) ↦ absurd (omega (arith, is, h.0))
+      | inr (inr (inl h)) ↦ absurd (omega (arith, is, h.0))
+      | inr (inr (inr (inl h))) ↦ absurd (omega (arith, is, h.0))
+      | inr (inr (inr (inr h))) ↦ c.format_in.ensures.all char behind h.1 h.2
     ]
 
 pub returns-in_default-clause-all : goal.returns-in_default-clause-all
@@ -57,5 +73,6 @@ returns-in_default-clause-all c = λ char behind e.
       | inl h ↦ absurd (search rules)
       | inr (inl h) ↦ absurd (search rules)
       | inr (inr (inl h)) ↦ absurd (search rules)
-      | inr (inr (inr h)) ↦ absurd (search rules)
+      | inr (inr (inr (inl h))) ↦ absurd (search rules)
+      | inr (inr (inr (inr h))) ↦ absurd (search rules)
     ]

@@ -1,9 +1,9 @@
 use Rattle.std.proofs.Common.{flat_map, sym, ap, ◌∙◌, map-id}
 use Rattle.std.proofs.lemmas.Iterator.{YieldsList-from_chars}
 use Rattle.std.proofs.lemmas.Iterator.Consumers.{YieldsList-end}
-use Rattle.bpfcanon_object.specs.Formats.{json_char}
+use Rattle.bpfcanon_object.specs.Json.{json_char}
 use Rattle.bpfcanon_object.proofs.EscapeLemmas.{IsPrintable-json_char, IsPrintable-flat_map}
-use Rattle.bpfcanon_object.proofs.check.json_text.Goals as goal
+use Rattle.bpfcanon_object.proofs.json.json_text.Goals as goal
 
 -- the loop has yielded all characters
 pub returns-clause-text : goal.returns-clause-text

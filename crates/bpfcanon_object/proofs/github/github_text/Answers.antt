@@ -1,8 +1,8 @@
 use Rattle.std.proofs.Common.{flat_map, sym, ap, ◌∙◌, map-id}
 use Rattle.std.proofs.lemmas.Iterator.{YieldsList-from_chars}
 use Rattle.std.proofs.lemmas.Iterator.Consumers.{YieldsList-end}
-use Rattle.bpfcanon_object.specs.Formats.{github_char}
-use Rattle.bpfcanon_object.proofs.check.github_text.Goals as goal
+use Rattle.bpfcanon_object.specs.Github.{github_char}
+use Rattle.bpfcanon_object.proofs.github.github_text.Goals as goal
 
 -- the loop has yielded all characters
 pub returns : goal.returns
