@@ -1,6 +1,6 @@
 # make            the commands and the C library, proved and built (15 to 25 minutes at first), in out/prefix
 # make demo       the main job on two examples, unproved, in two minutes; make demo-proved proves it first
-# make check      all proofs, mutations and tests (about an hour on 4 processors); make check-quick what needs seconds and no proof;
+# make check      all proofs, mutations and tests (over an hour on 4 processors); make check-quick what needs seconds and no proof;
 #                 make mutations tries the mutations that have changed; make check-tests the tests of what is built
 # make install    what is built, into PREFIX (and DESTDIR), with libraries in LIBDIR; make uninstall removes it
 # make tools      what the tests need from Debian, as root. CI is `CI=true make tools check` (.ci/run): a test that is skipped for want of
