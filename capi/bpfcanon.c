@@ -557,7 +557,7 @@ static const struct meaning object_causes[] = {
 	{ "NamesTable", "the names of sections aren't in a string table" },
 	{ "SectionCut", "the section extends past the end of the file" },
 	{ "SectionName", "the section's name is outside the names, or longer than 1,024 bytes" },
-	{ "SectionKind", "no section of a BPF object has this type, name and flags" },
+	{ "SectionKind", "a section of this type, name and flags can't be kept or dropped" },
 	{ "SectionTwice", "there is a second .symtab, .BTF or .BTF.ext" },
 	{ "RelocationTarget",
 	  "the table of relocations isn't named after its section, or that isn't code or "
@@ -576,8 +576,8 @@ static const struct meaning object_causes[] = {
 	{ "RelocationEntrySize", "sh_entsize of the table of relocations isn't 16" },
 	{ "RelocationSymbols", "sh_link of the table of relocations isn't the symbol table" },
 	{ "RelocationSymbol",
-	  "the relocation names no symbol, a source file, or a symbol in a section that "
-	  "isn't code or data" },
+	  "the relocation names no symbol, a source file, a label, or a symbol in a "
+	  "section that isn't code or data" },
 	{ "TypesTooLarge", ".BTF has more than 15,728,640 bytes" },
 	{ "TypesOrder", "the byte order of .BTF isn't that of the file" },
 	{ "TypesLayout", "type_off of .BTF isn't 0" },
@@ -605,6 +605,9 @@ static const struct meaning object_causes[] = {
 	  "the canonical file has more than 64 MiB, or more than four times the file and "
 	  "64 KiB, or its .BTF more than 15 MiB" },
 	{ "SectionsTooLarge", "the sections that are kept are together longer than the file" },
+	{ "SymbolDropped",
+	  "the symbol is dropped, but has a visibility, a value or a name that a loader "
+	  "may read" },
 };
 
 static const struct meaning no_meaning = { NULL, NULL };

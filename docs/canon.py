@@ -10,17 +10,16 @@ aren't named. The status is 1 for a refused file, and 2 if a file can't be read 
 from __future__ import annotations
 
 import argparse
-import sys
 from collections import namedtuple
 from enum import Enum
 from fnmatch import fnmatchcase
 from struct import iter_unpack, pack, unpack_from
-from typing import Iterable, Optional
 
 MAX_FILE, MAX_TYPES, MAX_SECTION_NAME = 64 << 20, 15 << 20, 1024
-ET_REL, EM_BPF, STB_LOCAL, STT_FILE, BTF_MAGIC = 1, 247, 0, 4, 0xEB9F
-SHT_PROGBITS, SHT_SYMTAB, SHT_STRTAB, SHT_NOBITS, SHT_REL = 1, 2, 3, 8, 9
-SHT_LLVM_ADDRSIG = 0x6FFF4C03
+ET_REL, EM_BPF, BTF_MAGIC = 1, 247, 0xEB9F
+STB_LOCAL, STT_NOTYPE, STT_SECTION, STT_FILE = 0, 0, 3, 4
+SHT_PROGBITS, SHT_SYMTAB, SHT_STRTAB, SHT_NOTE, SHT_NOBITS, SHT_REL = 1, 2, 3, 7, 8, 9
+SHT_INIT_ARRAY, SHT_FINI_ARRAY, SHT_LLVM_ADDRSIG = 14, 15, 0x6FFF4C03
 SHF_ALLOC, SHF_EXECINSTR, SHF_COMPRESSED = 0x2, 0x4, 0x800
 SHF_INFO_LINK, SHF_LINK_ORDER, SHF_GROUP = 0x40, 0x80, 0x200
 SHN_UNDEF, SHN_LORESERVE, SHN_ABS, SHN_COMMON = 0, 0xFF00, 0xFFF1, 0xFFF2
@@ -32,7 +31,6 @@ ST_NAME, ST_SHNDX, ST_VALUE, R_INFO = 0, 6, 8, 8
 
 class Refused(Exception):
     """A file has no canonical file: the first rule that it breaks, and the offset where it does."""
-
     def __init__(self, cause: str, offset: int) -> None:
         self.cause, self.offset = cause, offset
 
@@ -51,16 +49,19 @@ def string_at(strings: bytes, offset: int) -> bytes:
 # The file. Sections of two kinds are kept, and of three written anew. UNKNOWN ones are refused.
 Kind = Enum("Kind", "DATA RELOCATIONS SYMBOLS TYPES EXTENSION DROPPED UNKNOWN")
 L, C, I = SHF_ALLOC | SHF_EXECINSTR, SHF_COMPRESSED, SHF_GROUP | SHF_LINK_ORDER | SHF_INFO_LINK
-# sh_type, names, flags that are 0, kind. The names of all rows but the last are reserved.
+# Types, names, flags that are 0, kind: the first row counts. The first eight have reserved names.
 KINDS = (
-    (SHT_SYMTAB, (b".symtab",), L | C, Kind.SYMBOLS),
-    (SHT_PROGBITS, (b".BTF",), L | C, Kind.TYPES),
-    (SHT_PROGBITS, (b".BTF.ext",), L | C, Kind.EXTENSION),
-    (SHT_STRTAB, (b".strtab", b".shstrtab"), L | C, Kind.DROPPED),
-    (SHT_LLVM_ADDRSIG, (b".llvm_addrsig",), L | C, Kind.DROPPED),
-    (SHT_PROGBITS, (b".debug_*",), L, Kind.DROPPED),
-    (SHT_REL, (b".rel.debug_*", b".rel.BTF", b".rel.BTF.ext"), L | C, Kind.DROPPED),
-    (SHT_REL, (b".rel*",), L | C, Kind.RELOCATIONS),
+    ((SHT_SYMTAB,), (b".symtab",), L | C, Kind.SYMBOLS),
+    ((SHT_PROGBITS,), (b".BTF",), L | C, Kind.TYPES),
+    ((SHT_PROGBITS,), (b".BTF.ext",), L | C, Kind.EXTENSION),
+    ((SHT_STRTAB,), (b".strtab", b".shstrtab"), L | C, Kind.DROPPED),
+    ((SHT_LLVM_ADDRSIG,), (b".llvm_addrsig",), L | C, Kind.DROPPED),
+    ((SHT_PROGBITS,), (b".debug_*",), SHF_EXECINSTR, Kind.DROPPED),
+    ((SHT_REL,), (b".rel.debug_*", b".rel.BTF", b".rel.BTF.ext"), L | C, Kind.DROPPED),
+    ((), (b".BTF.base", b".llvm.lto"), 0, Kind.UNKNOWN),
+    ((SHT_REL,), (b".rel*",), L | C, Kind.RELOCATIONS),
+    ((SHT_NOBITS,), (b".bss*",), C | I, Kind.DATA),
+    ((SHT_PROGBITS, SHT_NOTE, SHT_INIT_ARRAY, SHT_FINI_ARRAY), (b"*",), C | I, Kind.DATA),
 )
 # The fields of a section's header, where the header is, the section's number, kind and name.
 Section = namedtuple("Section", (
@@ -70,21 +71,19 @@ Section = namedtuple("Section", (
 
 
 def is_reserved(name: bytes) -> bool:
-    return any(fnmatchcase(name, it) for _, names, _, _ in KINDS[:-1] for it in names)
+    return any(fnmatchcase(name, it) for _, names, _, _ in KINDS[:8] for it in names)
 
 
 def kind_of(name: bytes, section: Section) -> Kind:
-    """The first row with the type and the name counts. Code and data are in no row."""
-    for sh_type, names, zero, kind in KINDS:
-        if section.sh_type == sh_type and any(fnmatchcase(name, it) for it in names):
-            return Kind.UNKNOWN if section.sh_flags & zero else kind
-    is_data = section.sh_type in (SHT_PROGBITS, SHT_NOBITS) and not is_reserved(name)
-    return Kind.DATA if is_data and not section.sh_flags & (C | I) else Kind.UNKNOWN
+    for types, names, zero, kind in KINDS:
+        if section.sh_type in types and any(fnmatchcase(name, it) for it in names):
+            is_taken = kind is Kind.DATA and is_reserved(name)
+            return Kind.UNKNOWN if section.sh_flags & zero or is_taken else kind
+    return Kind.UNKNOWN
 
 
 class Strings:
     """A string table: each distinct string once, in the order of first use."""
-
     def __init__(self) -> None:
         self.content, self.offsets = bytearray(1), {b"": 0}
 
@@ -166,7 +165,7 @@ def write_types(types: Types, parts: list[list[Group]]) -> dict[bytes, bytes]:
     return {b".BTF": btf, b".BTF.ext": extension} if any(written) else {b".BTF": btf}
 
 
-def write_words(types: Types, rows: Iterable[Record], strings: Strings) -> bytes:
+def write_words(types: Types, rows: list[Record], strings: Strings) -> bytes:
     """The words of rows. Names get their offsets in the new string table."""
     words = [
         strings.add(string_at(types.strings, word)) if field == NAME else word
@@ -178,9 +177,7 @@ def write_words(types: Types, rows: Iterable[Record], strings: Strings) -> bytes
 
 # Refused files: what reads a part of a file checks its rules, in the order of the page.
 class Elf:
-    """The ELF part of a file. `mark` is the byte order for `struct`; `symbols` are the rows of the
-    null symbol and of the kept ones, by their numbers."""
-
+    """`mark` is the byte order for `struct`; `symbols` are the null symbol and the kept ones."""
     def __init__(self, data: bytes) -> None:
         rule("FileTooLarge", MAX_FILE, len(data) <= MAX_FILE)
         rule("FileCut", len(data), len(data) >= 64)
@@ -203,7 +200,7 @@ class Elf:
         self.read_symbols()
         self.check_relocations()
 
-    def find(self, kind: Kind) -> Optional[Section]:
+    def find(self, kind: Kind) -> Section | None:
         return next((it for it in self.sections if it.kind is kind), None)
 
     def section(self, number: int) -> Section:
@@ -211,7 +208,6 @@ class Elf:
         return self.sections[number if number < len(self.sections) else 0]
 
     def content(self, section: Section) -> bytes:
-        """SHT_NOBITS has none."""
         size = 0 if section.sh_type == SHT_NOBITS else section.sh_size
         return self.data[section.sh_offset : section.sh_offset + size]
 
@@ -259,17 +255,23 @@ class Elf:
         names = self.symbol_names = self.string_table(self.section(table.sh_link))
         rule("SymbolNames", table.place + SH_LINK, names != b"")
         for number, row in enumerate(iter_unpack(self.mark + SYMBOL, self.content(table))):
-            (st_name, st_info, _, st_shndx, value, size), at = row, table.sh_offset + 24 * number
+            (st_name, info, other, st_shndx, value, size), at = row, table.sh_offset + 24 * number
             rule("FirstSymbol", at, number > 0 or not any(row))
             rule("SymbolName", at + ST_NAME, st_name < len(names))
             is_special = st_shndx in (SHN_UNDEF, SHN_ABS, SHN_COMMON)
             section = self.section(0 if is_special else st_shndx)
             is_section, in_data = section.number > 0, section.kind is Kind.DATA
-            is_local = st_info >> 4 == STB_LOCAL
+            is_local, kind = info >> 4 == STB_LOCAL, info & 15
             rule("SymbolSection", at + ST_SHNDX, is_special or in_data or is_local and is_section)
             rule("SymbolPlace", at + ST_VALUE, not in_data or value + size <= section.sh_size)
-            is_source_file = st_info & 15 == STT_FILE and st_shndx == SHN_ABS
-            if not is_local or in_data or is_special and not is_source_file:
+            name, is_absolute = string_at(names, st_name), st_shndx == SHN_ABS
+            is_code = section.sh_type == SHT_PROGBITS and section.sh_flags & SHF_EXECINSTR
+            is_other = section.name.startswith((b".", b"maps")) and section.name[:5] != b".text"
+            if is_local and (is_section and not in_data or kind == STT_FILE and is_absolute):
+                is_unread = name == b"" or kind in (STT_NOTYPE, STT_SECTION, STT_FILE)
+                has_address = kind == STT_SECTION and value > 0
+                rule("SymbolDropped", at, other == 0 and is_unread and not has_address)
+            elif is_other or not is_code or not info == other == 0 or name[:3] != b"LBB":
                 self.symbols[number] = row
 
     def check_relocations(self) -> None:
@@ -304,7 +306,6 @@ NAMED = {"FWD", "TYPEDEF", "FUNC", "VAR", "DATASEC", "DECL_TAG", "TYPE_TAG"}
 WITH_FLAG = {"STRUCT", "UNION", "ENUM", "FWD", "DECL_TAG", "TYPE_TAG", "ENUM64"}
 TARGETS = {"FUNC": ["FUNC_PROTO"], "DATASEC": ["VAR", "FUNC"]}
 TARGETS["DECL_TAG"] = ["STRUCT", "UNION", "FUNC", "VAR", "TYPEDEF"]
-INT_BITS = 8, 16, 32, 64, 128
 SIZES = {"ENUM": (1, 2, 4, 8), "ENUM64": (1, 2, 4, 8), "FLOAT": (2, 4, 8, 12, 16)}
 Record = namedtuple("Record", "fields words place kind has_bit_fields", defaults=[0, "", False])
 # The records of a section in a part of .BTF.ext, and the fields of those of each part.
@@ -314,7 +315,6 @@ PARTS = (("insn_off", TYPE), ("insn_off", "file", "line", "col"), ("insn_off", T
 
 class Types:
     """A .BTF by itself, by FAULTS.md, with offsets in .BTF. Number 0 of the records is void."""
-
     def __init__(self, data: bytes) -> None:
         rule("ShortHeader", len(data), len(data) >= 24)
         rule("Magic", 0, data[:2] in (b"\x9f\xeb", b"\xeb\x9f"))
@@ -373,8 +373,8 @@ class Types:
                 rule("Reference", at, word < len(self.records))
                 target = self.records[word]
                 rule("TargetKind", at, target.kind in TARGETS.get(kind, [target.kind]))
-                is_plain = target.kind != "INT" or target.words[3] & 0xFF00FF in INT_BITS
-                rule("MemberInt", at, is_plain or not record.has_bit_fields)
+                is_full = target.kind != "INT" or target.words[3] & 0xFF00FF in (8, 16, 32, 64, 128)
+                rule("MemberInt", at, is_full or not record.has_bit_fields)
             elif field == ZERO:
                 rule("NotZero", at, word == 0)
             elif field == SIZE and kind in SIZES:
@@ -400,7 +400,7 @@ class Types:
         return int(target.words[1] & 0xFFFF)
 
 
-def read_types(elf: Elf) -> Optional[Types]:
+def read_types(elf: Elf) -> Types | None:
     if (section := elf.find(Kind.TYPES)) is None:
         return None
     start = section.sh_offset
@@ -423,7 +423,7 @@ def read_types(elf: Elf) -> Optional[Types]:
     return types
 
 
-def read_extension(elf: Elf, types: Optional[Types]) -> list[list[Group]]:
+def read_extension(elf: Elf, types: Types | None) -> list[list[Group]]:
     """The groups of functions, of lines and of CO-RE relocations."""
     section, parts = elf.find(Kind.EXTENSION), []
     if section is None:
@@ -491,7 +491,7 @@ def main() -> None:
         with open(given.out, "wb") as file:
             file.write(result)
     except Refused as it:
-        sys.exit(f"{given.file}: byte {it.offset}: {it.cause}")
+        parser.exit(1, f"{given.file}: byte {it.offset}: {it.cause}\n")
     except OSError as error:
         parser.exit(2, f"{error}\n")
 

@@ -177,7 +177,7 @@ class Crate:
             only = [word for it in group for function in sorted(it.functions()) for word in ("--only", function.replace("/", "::"))]
             status, said = output([find_kit() / "bin" / "rattle", "check", *words_for(self.name), *only], copy)
         unread, last = UNREAD.search(said), said.rstrip().rpartition("\n")[2]
-        if unread or not last.startswith("only=") or status not in (0, 1, 3):
+        if unread or not last.startswith("only=" if only else "logic=") or status not in (0, 1, 3):
             reason = unread[0] if unread else f"the check ended with status {status}: {last}"
             raise Failed(f"BAD MUTATION: {self.name}: no verdict with {' '.join(it.name for it in group)}: {reason}")
         return open_goals(said)

@@ -102,7 +102,7 @@ const (
 	ErrObjectNamesTable                                     // the names of sections aren't in a string table
 	ErrObjectSectionCut                                     // the section extends past the end of the file
 	ErrObjectSectionName                                    // the section's name is outside the names, or longer than 1,024 bytes
-	ErrObjectSectionKind                                    // no section of a BPF object has this type, name and flags
+	ErrObjectSectionKind                                    // a section of this type, name and flags can't be kept or dropped
 	ErrObjectSectionTwice                                   // there is a second .symtab, .BTF or .BTF.ext
 	ErrObjectRelocationTarget                               // the table of relocations isn't named after its section, or that isn't code or data
 	ErrObjectNoSymbols                                      // there is no symbol table
@@ -116,7 +116,7 @@ const (
 	ErrObjectRelocationTableSize                            // the size of the table of relocations isn't a multiple of 16
 	ErrObjectRelocationEntrySize                            // sh_entsize of the table of relocations isn't 16
 	ErrObjectRelocationSymbols                              // sh_link of the table of relocations isn't the symbol table
-	ErrObjectRelocationSymbol                               // the relocation names no symbol, a source file, or a symbol in a section that isn't code or data
+	ErrObjectRelocationSymbol                               // the relocation names no symbol, a source file, a label, or a symbol in a section that isn't code or data
 	ErrObjectTypesTooLarge                                  // .BTF has more than 15,728,640 bytes
 	ErrObjectTypesOrder                                     // the byte order of .BTF isn't that of the file
 	ErrObjectTypesLayout                                    // type_off of .BTF isn't 0
@@ -136,6 +136,7 @@ const (
 	ErrObjectExtensionLines                                 // functions and source lines of .BTF.ext don't match
 	ErrObjectResultTooLarge                                 // the canonical file has more than 64 MiB, or more than four times the file and 64 KiB, or its .BTF more than 15 MiB
 	ErrObjectSectionsTooLarge                               // the sections that are kept are together longer than the file
+	ErrObjectSymbolDropped                                  // the symbol is dropped, but has a visibility, a value or a name that a loader may read
 )
 
 // String returns the name of the cause, for example "Opcode", or "InsnCause(999)" for a number

@@ -5,9 +5,13 @@ from __future__ import annotations
 from dataclasses import dataclass
 from typing import Callable
 
-from docs.canon import MAX_SECTION_NAME, SHF_EXECINSTR, SHT_NOBITS
-from tests.objects.elf_file import ElfFile
+from docs.canon import (
+    MAX_SECTION_NAME, SHF_ALLOC, SHF_EXECINSTR, SHN_ABS, SHT_FINI_ARRAY, SHT_INIT_ARRAY, SHT_NOBITS, SHT_NOTE, SHT_PROGBITS, STT_FILE, STT_SECTION,
+)  # fmt: skip
+from tests.objects.elf_file import FUNCTION, ElfFile, Section
 from tools.objects.edited import Edited
+
+GLOBAL = 1 << 4
 
 
 def free_fields(it: Edited) -> None:
@@ -79,6 +83,7 @@ def no_instructions(it: Edited) -> None:
 
 def zeros_without_end(it: Edited) -> None:
     """A section without bytes that is longer than memory."""
+    it.row(b".maps", "name", it.add_string(b".bss.zeros"))
     it.row(b".maps", "type", SHT_NOBITS)
     it.row(b".maps", "size", 1 << 63)
     it.row(b".maps", "offset", len(it.data))
@@ -114,6 +119,45 @@ def no_parts(it: Edited) -> None:
         it.put(start + length, 4, 0)
 
 
+def labels(it: Edited) -> None:
+    """Labels, which aren't kept, in code of both names."""
+    it.add_symbol(b"LBB0_1", 0, it.section(b"raw_tp").number, value=8)
+    it.add_symbol(b"LBB", 0, it.section(b".text").number)
+
+
+def other_labels(it: Edited) -> None:
+    """Symbols that each lack one thing that a label has: binding, type, visibility, name, code, the name of a section of code."""
+    code, data = it.section(b"raw_tp").number, it.section(b"license").number
+    it.row(b".maps", "flags", SHF_ALLOC | SHF_EXECINSTR)
+    for name, info, section, other in (
+        (b"LBB1", GLOBAL, code, 0), (b"LBB2", FUNCTION, code, 0), (b"LBB3", 0, code, 2), (b"LB4", 0, code, 0), (b"LBB5", 0, data, 0),
+        (b"LBB6", 0, it.section(b".maps").number, 0), (b"LBB7", 0, SHN_ABS, 0),
+    ):  # fmt: skip
+        it.add_symbol(name, info, section, other)
+
+
+def dropped_symbols(it: Edited) -> None:
+    """Symbols of sections that aren't kept, and of a source file, which no loader reads."""
+    section = it.section(b".BTF").number
+    for name, info, value in (b"label", 0, 4), (b"section", STT_SECTION, 0), (b"x.c", STT_FILE, 4), (b"", FUNCTION, 4):
+        it.add_symbol(name, info, section, value=value)
+    it.add_symbol(b"y.c", STT_FILE, SHN_ABS, value=8)
+
+
+def kinds_of_data(it: Edited) -> None:
+    """Each other type of a section that is kept like data."""
+    for name, kind in (b".maps", SHT_NOTE), (b"license", SHT_INIT_ARRAY), (b".text", SHT_FINI_ARRAY):
+        it.row(name, "type", kind)
+
+
+def loaded_debug(it: Edited) -> None:
+    """A section of debuggers that would be loaded."""
+    file = ElfFile.read(bytes(it.data))
+    name = file.add_string(file.names, b".debug_gdb_scripts")
+    file.insert(1, Section(name, SHT_PROGBITS, SHF_ALLOC, 0, 0, 0, 1, 0, bytearray(b"\x01x\0"), 3))
+    it.data = file.write()
+
+
 @dataclass(frozen=True)
 class Accepted:
     """An accepted file: what is changed, and whether it has the canonical file of what it was made from."""
@@ -140,4 +184,9 @@ ACCEPTED = {
     "alignment": Accepted(lambda it: it.row(b"raw_tp", "addralign", 3)),
     "address": Accepted(lambda it: it.row(b"raw_tp", "addr", 8)),
     "as_long_as_the_file": Accepted(as_long_as_the_file),
+    "labels": Accepted(labels, is_same=True),
+    "other_labels": Accepted(other_labels),
+    "dropped_symbols": Accepted(dropped_symbols, is_same=True),
+    "kinds_of_data": Accepted(kinds_of_data),
+    "loaded_debug": Accepted(loaded_debug, is_same=True),
 }

@@ -46,12 +46,27 @@ class Edited:
         self.data += content
         self.elf = Elf(bytes(self.data))
 
+    def add_string(self, string: bytes) -> int:
+        """The offset of a string that is added to those of sections and symbols."""
+        names = self.bytes_of(b".strtab")
+        self.replace(b".strtab", names + string + b"\0")
+        return len(names)
+
     @property
     def symbols(self) -> list[tuple[int, ...]]:
         return list(struct.iter_unpack(self.elf.mark + canon.SYMBOL, self.bytes_of(b".symtab")))
 
     def symbol(self, number: int, field: str, value: int) -> int:
         return self.set(self.content(b".symtab") + sum(SYMBOL.values()) * number, SYMBOL, f"st_{field}", value)
+
+    def add_symbol(self, name: bytes, info: int, section: int, other: int = 0, value: int = 0) -> int:
+        """The offset of a symbol that is added to the others."""
+        row = struct.pack(self.elf.mark + canon.SYMBOL, self.add_string(name) if name else 0, info, other, section, value, 0)
+        rows, at = self.bytes_of(b".symtab") + row, len(self.data)
+        self.row(b".symtab", "offset", at)
+        self.row(b".symtab", "size", len(rows))
+        self.data += rows
+        return at + len(rows) - len(row)
 
     @property
     def last_symbol(self) -> int:

@@ -8,12 +8,17 @@ from __future__ import annotations
 import struct
 from typing import Callable, NamedTuple, Optional
 
-from docs.canon import MAX_FILE, MAX_SECTION_NAME, MAX_TYPES, SHF_COMPRESSED, SHN_UNDEF, SHT_PROGBITS, SHT_STRTAB, STB_LOCAL, SYMBOL
+from docs.canon import (
+    MAX_FILE, MAX_SECTION_NAME, MAX_TYPES, SHF_COMPRESSED, SHN_ABS, SHN_UNDEF, SHT_NOBITS, SHT_PROGBITS, SHT_STRTAB, STB_LOCAL, STT_FILE,
+    STT_SECTION, SYMBOL,
+)  # fmt: skip
+from tests.objects.elf_file import OBJECT
 from tools.objects.edited import Edited
 
 Change = Callable[[Edited], int]
 
 GLOBAL = 1 << 4
+SHT_PREINIT_ARRAY = 16
 XDP, RELOCATIONS, TYPES, EXTENSION = b"xdp", b".relraw_tp", b".BTF", b".BTF.ext"
 
 
@@ -61,6 +66,16 @@ def compressed(it: Edited) -> int:
     return it.row(XDP, "type", SHT_PROGBITS)
 
 
+def renamed(section: bytes, name: bytes) -> Change:
+    """A section has another name, with which its type is wrong."""
+
+    def change(it: Edited) -> int:
+        it.row(section, "name", it.add_string(name))
+        return it.row(section, "type", SHT_PROGBITS)
+
+    return change
+
+
 def two_of_types(it: Edited) -> int:
     """The license becomes a .BTF before the other one."""
     it.row(b"license", "flags", 0)
@@ -77,6 +92,18 @@ def no_symbols(it: Edited) -> int:
 def first_symbol(it: Edited) -> int:
     it.symbol(0, "size", 1)
     return it.content(b".symtab")
+
+
+def dropped_symbol(name: bytes, info: int, **fields: int) -> Change:
+    """A symbol of a section that isn't kept, which a loader may read."""
+    return lambda it: it.add_symbol(name, info, it.section(TYPES).number, **fields)
+
+
+def label_relocation(it: Edited) -> int:
+    """A relocation to a label, which isn't kept."""
+    number = len(it.symbols)
+    it.add_symbol(b"LBB0_1", 0, it.section(b"raw_tp").number)
+    return it.relocation(RELOCATIONS, "info", number << 32 | 1)
 
 
 def wrapped_place(it: Edited) -> int:
@@ -210,7 +237,7 @@ REFUSED = {
     "SectionCut.wraps": Refused("SectionCut", row(XDP, "offset", (1 << 64) - 8), "pass"),
     "SectionName": Refused("SectionName", lambda it: it.row(XDP, "name", len(it.bytes_of(b".strtab"))), "pass"),
     "SectionName.long": Refused("SectionName", long_name, "pass"),
-    "SectionKind": Refused("SectionKind", row(XDP, "type", 7), "pass"),
+    "SectionKind": Refused("SectionKind", row(XDP, "type", SHT_PREINIT_ARRAY), "pass"),
     "SectionKind.compressed": Refused("SectionKind", compressed, "pass"),
     "SectionTwice": Refused("SectionTwice", two_of_types),
     "RelocationTarget": Refused("RelocationTarget", row(RELOCATIONS, "info", 1)),
@@ -254,4 +281,12 @@ REFUSED = {
     "ResultTooLarge": Refused("ResultTooLarge", many_names, "pass"),
     "ResultTooLarge.padded": Refused("ResultTooLarge", largest_sections, length=MAX_FILE),
     "SectionsTooLarge": Refused("SectionsTooLarge", sections_too_large),
+    "SectionKind.zeros": Refused("SectionKind", row(b".maps", "type", SHT_NOBITS)),
+    "SectionKind.base": Refused("SectionKind", renamed(b"license", b".BTF.base")),
+    "SectionKind.lto": Refused("SectionKind", renamed(XDP, b".llvm.lto"), "pass"),
+    "SymbolDropped": Refused("SymbolDropped", dropped_symbol(b"limit", OBJECT), "pass"),
+    "SymbolDropped.section": Refused("SymbolDropped", dropped_symbol(b"", STT_SECTION, value=8), "pass"),
+    "SymbolDropped.visibility": Refused("SymbolDropped", dropped_symbol(b"label", 0, other=2), "pass"),
+    "SymbolDropped.file": Refused("SymbolDropped", lambda it: it.add_symbol(b"x.c", STT_FILE, SHN_ABS, other=2), "pass"),
+    "RelocationSymbol.label": Refused("RelocationSymbol", label_relocation),
 }

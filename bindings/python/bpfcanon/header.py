@@ -159,6 +159,7 @@ class ObjectCause(KnownCause):
     EXTENSION_LINES = 151
     RESULT_TOO_LARGE = 152
     SECTIONS_TOO_LARGE = 153
+    SYMBOL_DROPPED = 154
 
 
 class Form(enum.IntEnum):

@@ -78,7 +78,7 @@ call::causes! {
     SectionCut = BPFCANON_OBJECT_CAUSE_SECTION_CUT,
     /// The section's name is outside the names, or longer than 1,024 bytes.
     SectionName = BPFCANON_OBJECT_CAUSE_SECTION_NAME,
-    /// No section of a BPF object has this type, name and flags.
+    /// A section of this type, name and flags can't be kept or dropped.
     SectionKind = BPFCANON_OBJECT_CAUSE_SECTION_KIND,
     /// There is a second .symtab, `.BTF` or `.BTF.ext`.
     SectionTwice = BPFCANON_OBJECT_CAUSE_SECTION_TWICE,
@@ -106,8 +106,8 @@ call::causes! {
     RelocationEntrySize = BPFCANON_OBJECT_CAUSE_RELOCATION_ENTRY_SIZE,
     /// `sh_link` of the table of relocations isn't the symbol table.
     RelocationSymbols = BPFCANON_OBJECT_CAUSE_RELOCATION_SYMBOLS,
-    /// The relocation names no symbol, a source file, or a symbol in a section that isn't code or
-    /// data.
+    /// The relocation names no symbol, a source file, a label, or a symbol in a section that isn't
+    /// code or data.
     RelocationSymbol = BPFCANON_OBJECT_CAUSE_RELOCATION_SYMBOL,
     /// `.BTF` has more than 15,728,640 bytes.
     TypesTooLarge = BPFCANON_OBJECT_CAUSE_TYPES_TOO_LARGE,
@@ -150,6 +150,8 @@ call::causes! {
     ResultTooLarge = BPFCANON_OBJECT_CAUSE_RESULT_TOO_LARGE,
     /// The sections that are kept are together longer than the file.
     SectionsTooLarge = BPFCANON_OBJECT_CAUSE_SECTIONS_TOO_LARGE,
+    /// The symbol is dropped, but has a visibility, a value or a name that a loader may read.
+    SymbolDropped = BPFCANON_OBJECT_CAUSE_SYMBOL_DROPPED,
     ;
     /// `.BTF` has this fault by itself.
     Types(btf::Cause) below BPFCANON_OBJECT_CAUSE_FILE_TOO_LARGE

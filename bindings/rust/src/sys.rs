@@ -115,6 +115,7 @@ pub const BPFCANON_OBJECT_CAUSE_EXTENSION_STRING: bpfcanon_object_cause = 150;
 pub const BPFCANON_OBJECT_CAUSE_EXTENSION_LINES: bpfcanon_object_cause = 151;
 pub const BPFCANON_OBJECT_CAUSE_RESULT_TOO_LARGE: bpfcanon_object_cause = 152;
 pub const BPFCANON_OBJECT_CAUSE_SECTIONS_TOO_LARGE: bpfcanon_object_cause = 153;
+pub const BPFCANON_OBJECT_CAUSE_SYMBOL_DROPPED: bpfcanon_object_cause = 154;
 pub type bpfcanon_object_cause = u32;
 pub const BPFCANON_GROUP_BASE32: bpfcanon_group = 1;
 pub const BPFCANON_GROUP_BASE64: bpfcanon_group = 2;

@@ -4,7 +4,7 @@ use Rattle.std.specs.{Prelude.if◌then◌else◌, Str.bytes_eq}
 use Rattle.std.proofs.lemmas.Bool.{cases_Bool, eqb-true}
 use Rattle.bpf_elf.specs.declared.kinds.Kind.{Kind}
 use Rattle.bpf_elf.specs.declared.kinds.Kind.TheVariants.{Data, Relocations, Symbols, Types, Extension, Dropped}
-use Rattle.bpf_elf.specs.Kinds.{is_debug, is_loaded, is_plain, is_compressed, has_indices, is_reserved, is_strings_name, is_unread_table, begins, SHT_PROGBITS, SHT_NOBITS, SHT_STRTAB, SHT_LLVM_ADDRSIG, is_kind, if_fits, data_kind, progbits_kind, relocations_kind, table_kind, kind_of, SHT_SYMTAB, SHT_REL}
+use Rattle.bpf_elf.specs.Kinds.{is_debug, is_executable, is_like_data, is_plain, is_compressed, has_indices, is_reserved, is_strings_name, is_unread_table, begins, SHT_PROGBITS, SHT_NOBITS, SHT_STRTAB, SHT_LLVM_ADDRSIG, is_kind, if_fits, data_kind, nobits_kind, progbits_kind, relocations_kind, table_kind, kind_of, SHT_SYMTAB, SHT_REL}
 
 -- an answer isn't a kind
 record IsNot (w : Kind) (k : Option Kind) : Type 0 where
@@ -34,9 +34,12 @@ data_is w name flags a = unfit w (not (is_reserved name) && not (is_compressed f
 progbits_is : (w : Kind) (name : List ℕ) (flags : ℕ) → is_kind w (Some Dropped) ≡ false → is_kind w (Some Types) ≡ false
     → is_kind w (Some Extension) ≡ false → is_kind w (Some Data) ≡ false → IsNot w (progbits_kind name flags)
 progbits_is w name flags d t e a =
-    neither w (is_debug name) _ _ (unfit w (not (is_loaded flags)) Dropped d)
+    neither w (is_debug name) _ _ (unfit w (not (is_executable flags)) Dropped d)
     (neither w (bytes_eq name (codes ".BTF")) _ _ (unfit w (is_plain flags) Types t)
     (neither w (bytes_eq name (codes ".BTF.ext")) _ _ (unfit w (is_plain flags) Extension e) (data_is w name flags a)))
+
+nobits_is : (w : Kind) (name : List ℕ) (flags : ℕ) → is_kind w (Some Data) ≡ false → IsNot w (nobits_kind name flags)
+nobits_is w name flags a = neither w (begins name (codes ".bss")) _ _ (data_is w name flags a) (none w)
 
 some_chosen : (w : Kind) (x y : Bool) → is_kind w (Some Dropped) ≡ false → is_kind w (Some Relocations) ≡ false → IsNot w (if_fits x (cond y Dropped Relocations))
 some_chosen w x true d r = unfit w x Dropped d
@@ -69,8 +72,9 @@ symbols_type type name flags is =
           second Symbols (type == SHT_SYMTAB) _ _ other (dropped_is Symbols type name flags refl) in
           let all : IsNot Symbols (kind_of type name flags) =
           neither Symbols (type == SHT_PROGBITS) _ _ (progbits_is Symbols name flags refl refl refl refl)
-          (neither Symbols (type == SHT_NOBITS) _ _ (data_is Symbols name flags refl)
-          (neither Symbols (type == SHT_REL) _ _ (relocations_is Symbols name flags refl refl) table)) in
+          (neither Symbols (type == SHT_NOBITS) _ _ (nobits_is Symbols name flags refl)
+          (neither Symbols (is_like_data type) _ _ (data_is Symbols name flags refl)
+          (neither Symbols (type == SHT_REL) _ _ (relocations_is Symbols name flags refl refl) table))) in
           absurd (true_false (sym is ∙ all.no))
     ]
 
@@ -86,7 +90,8 @@ relocations_type type name flags is =
           (dropped_is Relocations type name flags refl) in
           let all : IsNot Relocations (kind_of type name flags) =
           neither Relocations (type == SHT_PROGBITS) _ _ (progbits_is Relocations name flags refl refl refl refl)
-          (neither Relocations (type == SHT_NOBITS) _ _ (data_is Relocations name flags refl)
-          (second Relocations (type == SHT_REL) _ _ other table)) in
+          (neither Relocations (type == SHT_NOBITS) _ _ (nobits_is Relocations name flags refl)
+          (neither Relocations (is_like_data type) _ _ (data_is Relocations name flags refl)
+          (second Relocations (type == SHT_REL) _ _ other table))) in
           absurd (true_false (sym is ∙ all.no))
     ]

@@ -1,5 +1,6 @@
 pub mod RuleLemmas
 pub mod NameLemmas
+pub mod NameStarts
 pub mod SectionLemmas
 pub mod KindLemmas
 pub mod SectionFacts

@@ -6,7 +6,7 @@ use Rattle.bpf_elf.specs.declared.{header.Header.Header, symbols.SymbolTable.Sym
 use Rattle.bpf_elf.specs.declared.fault.ElfCause.TheVariants as cause
 use Rattle.bpf_elf.specs.Rules.{ElfRule, AllHold, each, rule}
 use Rattle.bpf_elf.specs.Numbers.{count}
-use Rattle.bpf_elf.specs.Symbols.{symbol_count, symbol_rules, symbol_offset, symbol_strings, st_name, st_info, st_shndx, st_value, st_size, is_special, is_local, is_data, has_section, is_within}
+use Rattle.bpf_elf.specs.Symbols.{symbol_count, symbol_rules, symbol_offset, symbol_strings, st_name, st_info, st_shndx, st_value, st_size, is_special, is_local, is_data, has_section, is_within, is_droppable}
 use Rattle.bpf_elf.specs.Headers.{HasSection, HasSymbols, HasKeptSymbols}
 use Rattle.bpf_elf.proofs.RuleLemmas.{each_holds, head_holds}
 
@@ -15,7 +15,7 @@ either_holds true y z h = inl refl
 either_holds false true z h = inr refl
 either_holds false false z h = inl h
 
-of_section : (b : List ℕ) (info section : ℕ) → has_section b info section ≡ true → HasSection b section
+pub of_section : (b : List ℕ) (info section : ℕ) → has_section b info section ≡ true → HasSection b section
 of_section b info section h =
     elim (either_holds (is_special section) (nat_lt section (count b)) (is_local info || is_data b section) h) [
       | inl special ↦ inl special
@@ -23,7 +23,10 @@ of_section b info section h =
     ]
 
 abbrev place_rules : List ℕ → ℕ → List ElfRule
-place_rules b j = rule cause.SymbolPlace (symbol_offset b j + 8) (is_within b (st_shndx b j) (st_value b j) (st_size b j)) ∷ []
+place_rules b j =
+    rule cause.SymbolPlace (symbol_offset b j + 8) (is_within b (st_shndx b j) (st_value b j) (st_size b j))
+    ∷ rule cause.SymbolDropped (symbol_offset b j) (is_droppable b j)
+    ∷ []
 
 abbrev later_rules : List ℕ → ℕ → List ElfRule
 later_rules b j = rule cause.SymbolSection (symbol_offset b j + 6) (has_section b (st_info b j) (st_shndx b j)) ∷ place_rules b j

@@ -14,11 +14,20 @@ SHT_SYMTAB = 2
 abbrev pub SHT_STRTAB : ℕ
 SHT_STRTAB = 3
 
+abbrev pub SHT_NOTE : ℕ
+SHT_NOTE = 7
+
 abbrev pub SHT_NOBITS : ℕ
 SHT_NOBITS = 8
 
 abbrev pub SHT_REL : ℕ
 SHT_REL = 9
+
+abbrev pub SHT_INIT_ARRAY : ℕ
+SHT_INIT_ARRAY = 14
+
+abbrev pub SHT_FINI_ARRAY : ℕ
+SHT_FINI_ARRAY = 15
 
 abbrev pub SHT_LLVM_ADDRSIG : ℕ
 SHT_LLVM_ADDRSIG = 0x6fff4c03
@@ -27,9 +36,13 @@ SHT_LLVM_ADDRSIG = 0x6fff4c03
 abbrev pub has_flag : ℕ → ℕ → Bool
 has_flag flag flags = flags / flag % 2 == 1
 
+-- SHF_EXECINSTR
+abbrev pub is_executable : ℕ → Bool
+is_executable flags = has_flag 4 flags
+
 -- SHF_ALLOC or SHF_EXECINSTR
 abbrev pub is_loaded : ℕ → Bool
-is_loaded flags = has_flag 2 flags || has_flag 4 flags
+is_loaded flags = has_flag 2 flags || is_executable flags
 
 -- SHF_COMPRESSED
 abbrev pub is_compressed : ℕ → Bool
@@ -63,11 +76,15 @@ is_unread_table name = begins name (codes ".rel") && is_unrelocated (drop 4 name
 abbrev pub is_strings_name : List ℕ → Bool
 is_strings_name name = bytes_eq name (codes ".strtab") || bytes_eq name (codes ".shstrtab")
 
--- names that code and data can't have: sections of these names are written anew or dropped
+-- names of sections whose content no canonical file can hold: the source as bitcode, and types that .BTF goes on from
+abbrev pub is_refused_name : List ℕ → Bool
+is_refused_name name = bytes_eq name (codes ".llvm.lto") || bytes_eq name (codes ".BTF.base")
+
+-- names that code and data can't have: sections of these names are written anew, dropped or refused
 abbrev pub is_reserved : List ℕ → Bool
 is_reserved name =
     is_unrelocated name || is_unread_table name || is_strings_name name || bytes_eq name (codes ".symtab")
-    || bytes_eq name (codes ".llvm_addrsig")
+    || bytes_eq name (codes ".llvm_addrsig") || is_refused_name name
 
 -- the kind, if the section has what the kind requires
 abbrev pub if_fits : Bool → Kind → Option Kind
@@ -80,10 +97,14 @@ data_kind name flags = if_fits (not (is_reserved name) && not (is_compressed fla
 -- a section of type SHT_PROGBITS
 abbrev pub progbits_kind : List ℕ → ℕ → Option Kind
 progbits_kind name flags =
-    if is_debug name then if_fits (not (is_loaded flags)) Dropped
+    if is_debug name then if_fits (not (is_executable flags)) Dropped
     else if bytes_eq name (codes ".BTF") then if_fits (is_plain flags) Types
     else if bytes_eq name (codes ".BTF.ext") then if_fits (is_plain flags) Extension
     else data_kind name flags
+
+-- data without bytes in the file: all loaders take it for zeros if its name begins with .bss
+abbrev pub nobits_kind : List ℕ → ℕ → Option Kind
+nobits_kind name flags = if begins name (codes ".bss") then data_kind name flags else None
 
 -- a table of relocations is kept but for one that no loader reads
 abbrev pub relocations_kind : List ℕ → ℕ → Option Kind
@@ -98,11 +119,16 @@ table_kind type name flags =
     else if type == SHT_LLVM_ADDRSIG then if_fits (bytes_eq name (codes ".llvm_addrsig") && is_plain flags) Dropped
     else None
 
+-- types of sections that loaders take for data, or take no notice of
+abbrev pub is_like_data : ℕ → Bool
+is_like_data type = type == SHT_NOTE || (type == SHT_INIT_ARRAY || type == SHT_FINI_ARRAY)
+
 -- the kind of a section by its type, name and flags
 unfoldable pub kind_of : ℕ → List ℕ → ℕ → Option Kind
 kind_of type name flags =
     if type == SHT_PROGBITS then progbits_kind name flags
-    else if type == SHT_NOBITS then data_kind name flags
+    else if type == SHT_NOBITS then nobits_kind name flags
+    else if is_like_data type then data_kind name flags
     else if type == SHT_REL then relocations_kind name flags
     else table_kind type name flags
 

@@ -1,12 +1,12 @@
 -- The symbols of a file, and the rules on them (System V ABI, "Symbol Table").
-use Rattle.std.specs.Prelude.{ℕ, ◌+◌, ◌*◌, ◌/◌, ◌%◌, ◌==◌, ◌||◌, ◌&&◌, not, nat_lt, nat_le, Bool, List, [], ◌∷◌, length, slice_index}
+use Rattle.std.specs.Prelude.{ℕ, ◌+◌, ◌*◌, ◌/◌, ◌%◌, ◌==◌, ◌||◌, ◌&&◌, not, nat_lt, nat_le, Bool, List, [], ◌∷◌, length, slice_index, codes}
 use Rattle.bpf_elf.specs.declared.kinds.Kind.TheVariants.{Data, Symbols}
 use Rattle.bpf_elf.specs.declared.fault.ElfCause.TheVariants as cause
 use Rattle.bpf_elf.specs.Rules.{ElfRule, rule}
-use Rattle.bpf_elf.specs.Numbers.{half, word, long, count, names, header_offset, offset, size, link, entry_size}
+use Rattle.bpf_elf.specs.Numbers.{half, word, long, count, names, header_offset, type, flags, offset, size, link, entry_size}
 use Rattle.bpf_elf.specs.Names.{string_at}
-use Rattle.bpf_elf.specs.Kinds.{is_kind}
-use Rattle.bpf_elf.specs.Sections.{content, kind, section_of, is_string_table, is_zero_at}
+use Rattle.bpf_elf.specs.Kinds.{SHT_PROGBITS, begins, is_executable, is_kind}
+use Rattle.bpf_elf.specs.Sections.{name as section_name, content, kind, section_of, is_string_table, is_zero_at}
 
 -- special section indices: SHN_UNDEF, SHN_ABS and SHN_COMMON
 abbrev pub SHN_ABS : ℕ
@@ -76,13 +76,52 @@ is_data b i = is_kind Data (kind b i)
 abbrev pub is_file_name : ℕ → ℕ → Bool
 is_file_name info section = is_local info && (is_file info && section == SHN_ABS)
 
--- a canonical file has the symbol: it is in code or data or in no section, and isn't the name of a source file
-abbrev pub is_kept : List ℕ → ℕ → ℕ → Bool
-is_kept b info section = (is_special section || is_data b section) && not (is_file_name info section)
+-- a symbol is in code or data or in no section, and isn't the name of a source file
+abbrev pub is_loadable : List ℕ → ℕ → ℕ → Bool
+is_loadable b info section = (is_special section || is_data b section) && not (is_file_name info section)
+
+-- a section has code in which loaders look for no variables and no maps, by its type, name and flags
+abbrev pub is_code : ℕ → List ℕ → ℕ → Bool
+is_code type name flags =
+    type == SHT_PROGBITS
+    && (is_executable flags && (begins name (codes ".text") || not (begins name (codes ".") || begins name (codes "maps"))))
+
+-- a label of the compiler in code, by st_info, st_other and its name: it is local, has no type, and begins with LBB
+abbrev pub is_label_name : ℕ → ℕ → List ℕ → Bool
+is_label_name info other name = info == 0 && (other == 0 && begins name (codes "LBB"))
+
+-- a symbol is a label, by st_info, st_other, st_shndx and its name
+abbrev pub is_label_of : List ℕ → ℕ → ℕ → ℕ → List ℕ → Bool
+is_label_of b info other section name =
+    is_label_name info other name
+    && (not (is_special section) && is_code (type b section) (section_name b section) (flags b section))
+
+-- the symbol with this index is a label
+abbrev pub is_label : List ℕ → ℕ → Bool
+is_label b j = is_label_of b (st_info b j) (st_other b j) (st_shndx b j) (symbol_name b j)
 
 -- a canonical file has the symbol with this index
 abbrev pub is_kept_symbol : List ℕ → ℕ → Bool
-is_kept_symbol b j = is_kept b (st_info b j) (st_shndx b j)
+is_kept_symbol b j = is_loadable b (st_info b j) (st_shndx b j) && not (is_label b j)
+
+-- STT_SECTION
+abbrev pub is_section_type : ℕ → Bool
+is_section_type info = info % 16 == 3
+
+-- STT_NOTYPE, STT_SECTION or STT_FILE
+abbrev pub has_unread_type : ℕ → Bool
+has_unread_type info = info % 16 == 0 || (is_section_type info || is_file info)
+
+-- no loader reads the symbol if its section is dropped, by st_info, st_other, st_value and its name: it has no type but these or no
+-- name, is visible everywhere, and that of a section is at its start
+abbrev pub is_unread : ℕ → ℕ → ℕ → List ℕ → Bool
+is_unread info other value name =
+    other == 0 && ((has_unread_type info || length name == 0) && not (is_section_type info && not (value == 0)))
+
+-- the symbol with this index is in code, in data or in no section, or can be dropped
+abbrev pub is_droppable : List ℕ → ℕ → Bool
+is_droppable b j =
+    is_loadable b (st_info b j) (st_shndx b j) || is_unread (st_info b j) (st_other b j) (st_value b j) (symbol_name b j)
 
 -- the section index is special or that of a section; a symbol that isn't local is in code or data
 abbrev pub has_section : List ℕ → ℕ → ℕ → Bool
@@ -110,10 +149,11 @@ symbol_form_rules b =
 abbrev pub symbol_table_rules : List ℕ → List ElfRule
 symbol_table_rules b = rule cause.NoSymbols 40 (nat_lt 0 (symbols b)) ∷ symbol_form_rules b
 
--- a symbol has a name and a section, and is inside it
+-- a symbol has a name and a section, is inside it, and is one that no loader reads if it is dropped
 abbrev pub symbol_rules : List ℕ → ℕ → List ElfRule
 symbol_rules b j =
     rule cause.SymbolName (symbol_offset b j) (nat_lt (st_name b j) (length (symbol_strings b)))
     ∷ rule cause.SymbolSection (symbol_offset b j + 6) (has_section b (st_info b j) (st_shndx b j))
     ∷ rule cause.SymbolPlace (symbol_offset b j + 8) (is_within b (st_shndx b j) (st_value b j) (st_size b j))
+    ∷ rule cause.SymbolDropped (symbol_offset b j) (is_droppable b j)
     ∷ []

@@ -16,13 +16,14 @@ ghost use Rattle.bpf_elf.specs.declared.kinds.Kind.TheVariants.{Relocations};
 
 use crate::fault::ElfFault;
 use crate::header::{Header, read_header};
+use crate::kept_symbols::is_kept_symbol;
 use crate::kinds::Kind;
 use crate::names::string_at;
 use crate::relocations::{Relocation, check_relocations, relocation_at, relocation_count};
 use crate::section_checks::{check_sections, check_table, check_targets, section_of};
 use crate::sections::{SectionHeader, content, kind, name, names_content, section_header};
 use crate::symbols::{
-    Symbol, SymbolTable, check_symbols, is_kept, read_symbol_table, symbol_at, symbol_strings,
+    Symbol, SymbolTable, check_symbols, read_symbol_table, symbol_at, symbol_strings,
 };
 use bpf_words::{Order, get32};
 use std::marker::Model;
@@ -240,13 +241,13 @@ impl<'a> Elf<'a> {
         self.header.names == self.symbols.names
     }
 
-    /// Whether the canonical file has a symbol: all but the names of source files, and local ones of
-    /// sections that are not code or data.
+    /// Whether the canonical file has a symbol: all but the names of source files, labels of the
+    /// compiler in code, and local ones of sections that are not code or data.
     pub fn is_kept_symbol(&self, j: usize) -> bool
         requires { j < symbols.symbol_count self.now }
         ensures { result ≡ symbols.is_kept_symbol self.now j }
     {
-        is_kept(self.bytes, self.header, self.symbol(j))
+        is_kept_symbol(self.bytes, self.header, self.symbols, j)
     }
 
     /// How many rows a table of relocations has.

@@ -66,7 +66,7 @@ pub enum ElfCause {
     #[error("the section's name is outside the names, or longer than 1,024 bytes")]
     SectionName,
     /// Reported at sh_type.
-    #[error("no section of a BPF object has this type, name and flags")]
+    #[error("a section of this type, name and flags can't be kept or dropped")]
     SectionKind,
     /// Reported at sh_type of the second one.
     #[error("there is a second .symtab, .BTF or .BTF.ext")]
@@ -108,11 +108,14 @@ pub enum ElfCause {
     #[error("sh_link of the table of relocations isn't the symbol table")]
     RelocationSymbols,
     /// Reported at r_info. A symbol in SHN_UNDEF, SHN_ABS or SHN_COMMON is accepted.
-    #[error("the relocation names no symbol, a source file, or a symbol in a section that isn't code or data")]
+    #[error("the relocation names no symbol, a source file, a label, or a symbol in a section that isn't code or data")]
     RelocationSymbol,
     /// Reported at the header of the first section up to which they are longer.
     #[error("the sections that are kept are together longer than the file")]
     SectionsTooLarge = 53,
+    /// Reported at the symbol.
+    #[error("the symbol is dropped, but has a visibility, a value or a name that a loader may read")]
+    SymbolDropped,
 }
 
 /// The first rule that a file breaks, and where.

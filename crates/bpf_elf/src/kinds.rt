@@ -29,9 +29,15 @@ pub(crate) const SHT_SYMTAB: u32 = 2;
 
 pub(crate) const SHT_STRTAB: u32 = 3;
 
+pub(crate) const SHT_NOTE: u32 = 7;
+
 pub(crate) const SHT_NOBITS: u32 = 8;
 
 pub(crate) const SHT_REL: u32 = 9;
+
+pub(crate) const SHT_INIT_ARRAY: u32 = 14;
+
+pub(crate) const SHT_FINI_ARRAY: u32 = 15;
 
 pub(crate) const SHT_LLVM_ADDRSIG: u32 = 0x6fff_4c03;
 
@@ -55,11 +61,18 @@ fn has_flag(flag: u64, flags: u64) -> bool
     flags / flag % 2 == 1
 }
 
+/// Whether the section has instructions.
+pub(crate) fn is_executable(flags: u64) -> bool
+    ensures { result ≡ spec.is_executable flags }
+{
+    has_flag(SHF_EXECINSTR, flags)
+}
+
 /// Whether a loader takes the section into memory.
 fn is_loaded(flags: u64) -> bool
     ensures { result ≡ spec.is_loaded flags }
 {
-    has_flag(SHF_ALLOC, flags) || has_flag(SHF_EXECINSTR, flags)
+    has_flag(SHF_ALLOC, flags) || is_executable(flags)
 }
 
 /// Whether the section may hold indices of others.
@@ -104,8 +117,16 @@ fn is_strings_name(name: &[u8]) -> bool
     name == b".strtab".as_slice() || name == b".shstrtab".as_slice()
 }
 
-/// Whether code and data can't have this name, because sections of this name are written anew or
-/// dropped.
+/// Whether a name is that of a section whose content no canonical file can hold: the source as
+/// bitcode, and types that .BTF goes on from.
+fn is_refused_name(name: &[u8]) -> bool
+    ensures { result ≡ spec.is_refused_name name.now }
+{
+    name == b".llvm.lto".as_slice() || name == b".BTF.base".as_slice()
+}
+
+/// Whether code and data can't have this name, because sections of this name are written anew,
+/// dropped or refused.
 pub fn is_reserved(name: &[u8]) -> bool
     ensures { result ≡ spec.is_reserved name.now }
 {
@@ -114,6 +135,7 @@ pub fn is_reserved(name: &[u8]) -> bool
         || is_strings_name(name)
         || name == b".symtab".as_slice()
         || name == b".llvm_addrsig".as_slice()
+        || is_refused_name(name)
 }
 
 /// A kind, if the section has what it requires.
@@ -134,13 +156,24 @@ fn progbits_kind(name: &[u8], flags: u64) -> Option<Kind>
     ensures { result ≡ spec.progbits_kind name.now flags }
 {
     if is_debug(name) {
-        if_fits(!is_loaded(flags), Kind::Dropped)
+        if_fits(!is_executable(flags), Kind::Dropped)
     } else if name == b".BTF".as_slice() {
         if_fits(is_plain(flags), Kind::Types)
     } else if name == b".BTF.ext".as_slice() {
         if_fits(is_plain(flags), Kind::Extension)
     } else {
         data_kind(name, flags)
+    }
+}
+
+/// All loaders take data without bytes in the file for zeros if its name begins with .bss.
+fn nobits_kind(name: &[u8], flags: u64) -> Option<Kind>
+    ensures { result ≡ spec.nobits_kind name.now flags }
+{
+    if name.starts_with(b".bss") {
+        data_kind(name, flags)
+    } else {
+        None
     }
 }
 
@@ -180,7 +213,8 @@ pub(crate) fn kind_of(section_type: u32, name: &[u8], flags: u64) -> Option<Kind
 {
     match section_type {
         SHT_PROGBITS => progbits_kind(name, flags),
-        SHT_NOBITS => data_kind(name, flags),
+        SHT_NOBITS => nobits_kind(name, flags),
+        SHT_NOTE | SHT_INIT_ARRAY | SHT_FINI_ARRAY => data_kind(name, flags),
         SHT_REL => relocations_kind(name, flags),
         _ => table_kind(section_type, name, flags),
     }

@@ -9,6 +9,7 @@
 mod elf;
 mod fault;
 mod header;
+mod kept_symbols;
 mod kinds;
 mod names;
 mod numbers;

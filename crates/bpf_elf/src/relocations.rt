@@ -10,10 +10,11 @@ ghost use Rattle.bpf_elf.specs.SectionHeaders.{IsRelocation};
 
 use crate::fault::{ElfCause, ElfFault, require};
 use crate::header::Header;
+use crate::kept_symbols::is_kept_symbol;
 use crate::kinds::{Kind, is_kind};
 use crate::numbers::get64;
 use crate::sections::{kind, section_header};
-use crate::symbols::{SymbolTable, is_kept, symbol_at};
+use crate::symbols::SymbolTable;
 
 /// A row of a table of relocations.
 #[derive(Clone, Copy, Debug, PartialEq, Eq)]
@@ -55,7 +56,7 @@ fn is_relocation_symbol(bytes: &[u8], header: Header, table: SymbolTable, j: usi
     requires { HasKeptSymbols bytes.now header table }
     ensures { result ≡ spec.is_relocation_symbol bytes.now j }
 {
-    j < table.count && is_kept(bytes, header, symbol_at(bytes, header, table, j))
+    j < table.count && is_kept_symbol(bytes, header, table, j)
 }
 
 /// Checks a row of a table.

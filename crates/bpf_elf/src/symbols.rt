@@ -10,21 +10,20 @@ ghost use Rattle.bpf_elf.specs.SectionHeaders.{IsSymbol};
 
 use crate::fault::{ElfCause, ElfFault, require};
 use crate::header::Header;
-use crate::kinds::{Kind, is_kind};
+use crate::kept_symbols::{is_data, is_droppable};
+use crate::kinds::Kind;
 use crate::numbers::get64;
 use crate::section_checks::{is_zero_at, section_of};
-use crate::sections::{content, is_string_table, kind, section_header};
+use crate::sections::{content, is_string_table, section_header};
 use bpf_words::{get16, get32};
 
 const SHN_UNDEF: u16 = 0;
 
-const SHN_ABS: u16 = 0xfff1;
+pub(crate) const SHN_ABS: u16 = 0xfff1;
 
 const SHN_COMMON: u16 = 0xfff2;
 
-const STB_LOCAL: u8 = 0;
-
-const STT_FILE: u8 = 4;
+pub(crate) const STB_LOCAL: u8 = 0;
 
 /// An entry of the symbol table.
 #[derive(Clone, Copy, Debug, PartialEq, Eq)]
@@ -144,31 +143,6 @@ pub fn is_special(section: u16) -> bool
     section == SHN_UNDEF || section == SHN_ABS || section == SHN_COMMON
 }
 
-/// Whether the section of a symbol is one of code or data.
-fn is_data(bytes: &[u8], header: Header, section: u16) -> bool
-    requires header { HasSections bytes.now header }
-    requires there { section < count bytes.now }
-    ensures { result ≡ spec.is_data bytes.now section }
-{
-    is_kind(Kind::Data, kind(bytes, header, usize::from(section)))
-}
-
-/// Whether a symbol is the name of a source file.
-fn is_file_name(symbol: Symbol) -> bool
-    ensures { result ≡ spec.is_file_name symbol.info symbol.section }
-{
-    symbol.info / 16 == STB_LOCAL && symbol.info % 16 == STT_FILE && symbol.section == SHN_ABS
-}
-
-/// Whether the canonical file has a symbol.
-pub(crate) fn is_kept(bytes: &[u8], header: Header, symbol: Symbol) -> bool
-    requires header { HasSections bytes.now header }
-    requires section { HasSection bytes.now symbol.section }
-    ensures { result ≡ spec.is_kept bytes.now symbol.info symbol.section }
-{
-    (is_special(symbol.section) || is_data(bytes, header, symbol.section)) && !is_file_name(symbol)
-}
-
 /// Whether a symbol has a section index that it may have.
 fn has_section(bytes: &[u8], header: Header, symbol: Symbol) -> bool
     requires { HasSections bytes.now header }
@@ -205,7 +179,9 @@ fn check_symbol(bytes: &[u8], header: Header, table: SymbolTable, j: usize) -> R
     let has_section = has_section(bytes, header, symbol);
     require(has_section, pos + 6, ElfCause::SymbolSection)?;
     let is_within = is_within(bytes, header, symbol);
-    require(is_within, pos + 8, ElfCause::SymbolPlace)
+    require(is_within, pos + 8, ElfCause::SymbolPlace)?;
+    let is_droppable = is_droppable(bytes, header, table, j);
+    require(is_droppable, pos, ElfCause::SymbolDropped)
 }
 
 /// Checks all symbols.

@@ -1,15 +1,15 @@
 -- The symbols of a file that is accepted are valid, and so is its object.
 use Rattle.std.proofs.Common.{◌≡◌, ℕ, ◌+◌, ◌-◌, ◌^◌, ◌<◌, ◌≤◌, ◌⊎◌, ◌==◌, ◌&&◌, ◌||◌, Bool, true, false, not, List, [], Option, length, if◌then◌else◌, inl, inr, refl, sym, ap, subst, ◌∙◌, arith}
 use Rattle.std.specs.Prelude.{nat_lt, nat_le}
-use Rattle.std.proofs.lemmas.Bool.{cases_Bool, and_parts, or_left, ltb-true, leb-true, Decides.nat_tests}
+use Rattle.std.proofs.lemmas.Bool.{cases_Bool, and_parts, and_from, or_left, ltb-true, leb-true, Decides.nat_tests}
 use Rattle.bpf_words.specs.Words.{IsBytes}
 use Rattle.bpf_elf.specs.declared.kinds.Kind.TheVariants.{Data}
 use Rattle.bpf_elf.specs.Numbers as number
 use Rattle.bpf_elf.specs.Numbers.{order_of}
 use Rattle.bpf_elf.specs.Names.{string_at}
 use Rattle.bpf_elf.specs.Kinds.{is_kind}
-use Rattle.bpf_elf.specs.Sections.{kind}
-use Rattle.bpf_elf.specs.Symbols.{symbols, symbol_count, symbol_offset, symbol_strings, symbol_name, st_name, st_info, st_other, st_shndx, st_value, st_size, SHN_ABS, is_special, is_local, is_file, is_data, is_file_name, is_kept, is_kept_symbol}
+use Rattle.bpf_elf.specs.Sections.{kind, name}
+use Rattle.bpf_elf.specs.Symbols.{symbols, symbol_count, symbol_offset, symbol_strings, symbol_name, st_name, st_info, st_other, st_shndx, st_value, st_size, SHN_ABS, is_special, is_local, is_file, is_data, is_file_name, is_loadable, is_label_name, is_code, is_label, is_kept_symbol}
 use Rattle.bpf_elf.specs.ElfRules.{IsElf}
 use Rattle.bpf_elf.proofs.KindLemmas.{true_false}
 use Rattle.bpf_object.specs.Objects.{KeptSection, ObjectTypes, Object}
@@ -17,10 +17,24 @@ use Rattle.bpf_object.specs.Kept.{is_table, is_kept_section, section_number, sym
 use Rattle.bpf_object.specs.Denotes.{object_of}
 use Rattle.bpf_object.proofs.KeptLemmas.{number_below}
 use Rattle.bpf_object.proofs.ReadBackSectionRules.{first_is_empty}
-use Rattle.bpf_object.proofs.CanonValid.{section_of, symbol_of, no_symbol, IsDataOf, IsValidSymbol, ValidObject}
+use Rattle.bpf_object.proofs.CanonValid.{section_of, symbol_of, no_symbol, is_label_in, IsDataOf, IsValidSymbol, ValidObject}
 use Rattle.bpf_object.proofs.CanonLists.{number_less, get-listed, listed_from, listed_at}
 use Rattle.bpf_object.proofs.CanonRules.{half_below, word_below, long_below, string_without_nul, AreZero, zero_bytes, half_zero, word_zero, long_zero, left_false, few_sections, IsSymbolTable, symbol_table_facts, symbol_facts}
 use Rattle.bpf_object.proofs.CanonAccepted.{data_there, section_numbered, symbol_count_is, valid_sections}
+
+-- ---- labels
+
+-- a symbol in no section is no label
+no_special_label : (x y c : Bool) → y ≡ true → (x && (not y && c)) ≡ false
+no_special_label true y c special = rw special refl
+no_special_label false y c special = refl
+
+-- nor is one that wasn't
+no_label : (x y z c d : Bool) → (x && (not y && c)) ≡ false → y ≡ false → d ≡ c → (x && (not z && d)) ≡ false
+no_label true true z c d h other same = absurd (true_false other)
+no_label true false true c d h other same = refl
+no_label true false false c d h other same = same ∙ h
+no_label false y z c d h other same = refl
 
 -- ---- the first symbol
 
@@ -54,7 +68,10 @@ module _ (b : List ℕ) (t : IsSymbolTable b) where
       λ k. record { name = first_name k; info = first_info k; other = first_other k; section = section k; value = first_value k; size = first_size k }
 
   first_kept : is_kept_symbol b 0 ≡ true
-  first_kept = ap (λ (i : ℕ). is_kept b i (st_shndx b 0)) first_info ∙ ap (λ (i : ℕ). is_kept b 0 i) first_section
+  first_kept =
+      and_from (is_loadable b (st_info b 0) (st_shndx b 0)) (not (is_label b 0))
+      (ap (λ (i : ℕ). is_loadable b i (st_shndx b 0)) first_info ∙ ap (λ (i : ℕ). is_loadable b 0 i) first_section)
+      (ap not (no_special_label (is_label_name (st_info b 0) (st_other b 0) (symbol_name b 0)) (is_special (st_shndx b 0)) _ (ap is_special first_section)))
 
 -- ---- the sections of symbols
 
@@ -97,7 +114,8 @@ module _ (b : List ℕ) (bytes : IsBytes b) (elf : IsElf b) (t : Option ObjectTy
   index_of : (j : ℕ) → j < symbol_count b → is_kept_symbol b j ≡ true → IsIndexOf (object_of b t) (symbol_section b (st_shndx b j)) (st_info b j) (st_value b j) (st_size b j)
   index_of j below is =
       let sh = st_shndx b j in
-      let parts = and_parts (is_special sh || is_data b sh) (not (is_file_name (st_info b j) sh)) is in
+      let loadable = (and_parts (is_loadable b (st_info b j) sh) (not (is_label b j)) is).0 in
+      let parts = and_parts (is_special sh || is_data b sh) (not (is_file_name (st_info b j) sh)) loadable in
       let Index = λ (i : ℕ). IsIndexOf (object_of b t) i (st_info b j) (st_value b j) (st_size b j) in
       elim (cases_Bool (is_special sh)) [
         | inl special ↦
@@ -110,6 +128,28 @@ module _ (b : List ℕ) (bytes : IsBytes b) (elf : IsElf b) (t : Option ObjectTy
             let inside = left_false (not (is_data b sh)) (nat_le (st_value b j + st_size b j) (number.size b sh)) within (ap not code) in
             subst Index (sym (ap (λ (y : Bool). if y then sh else section_number b sh) other))
             (placed_index j (ltb-true _ _ (and_parts (nat_lt sh (number.count b)) (is_local (st_info b j) || is_data b sh) section).0) code (leb-true _ _ inside))
+      ]
+
+  label_of : (j : ℕ) → j < symbol_count b → is_kept_symbol b j ≡ true → is_label_in (object_of b t) (kept_symbol b j) ≡ false
+  label_of j below is =
+      let sh = st_shndx b j in
+      let x = is_label_name (st_info b j) (st_other b j) (symbol_name b j) in
+      let its = and_parts (is_loadable b (st_info b j) sh) (not (is_label b j)) is in
+      let parts = and_parts (is_special sh || is_data b sh) (not (is_file_name (st_info b j) sh)) its.0 in
+      let code_of : ℕ → Bool = λ (i : ℕ). (let c = section_of (object_of b t) (i - 1) in is_code c.type c.name c.flags) in
+      let Other = λ (i : ℕ). (x && (not (is_special i) && code_of i)) ≡ false in
+      elim (cases_Bool (is_special sh)) [
+        | inl special ↦
+            subst Other (sym (ap (λ (y : Bool). if y then sh else section_number b sh) special)) (no_special_label x (is_special sh) (code_of sh) special)
+        | inr other ↦
+            let code : is_kind Data (kind b sh) ≡ true = left_false (is_special sh) (is_data b sh) parts.0 other in
+            let section = left_false (is_special sh) (nat_lt sh (number.count b) && (is_local (st_info b j) || is_data b sh)) (symbol_facts b elf j below).section other in
+            let lt = ltb-true _ _ (and_parts (nat_lt sh (number.count b)) (is_local (st_info b j) || is_data b sh) section).0 in
+            let kept : is_kept_section b sh ≡ true = or_left (is_kind Data (kind b sh)) (is_table b sh) code in
+            let same : code_of (section_number b sh) ≡ is_code (number.type b sh) (name b sh) (number.flags b sh) =
+            ap (λ (s : KeptSection). is_code s.type s.name s.flags) (section_numbered b bytes elf t sh lt kept) in
+            subst Other (sym (ap (λ (y : Bool). if y then sh else section_number b sh) other))
+            (no_label x (is_special sh) (is_special (section_number b sh)) _ _ (from_not (is_label b j) its.1) other same)
       ]
 
   valid_symbol : (j : ℕ) → j < symbol_count b → is_kept_symbol b j ≡ true → IsValidSymbol (object_of b t) (kept_symbol b j)
@@ -125,6 +165,7 @@ module _ (b : List ℕ) (bytes : IsBytes b) (elf : IsElf b) (t : Option ObjectTy
         size = long_below b bytes (p + 16);
         place = elim index.place [ inl special ↦ inl special | inr its ↦ inr (record { section = its.0; within = its.1 }) ];
         not_file = index.not_file;
+        not_label = label_of j lt is;
       }
 
   valid_symbols : (j : ℕ) → j < length (kept_symbols b) → IsValidSymbol (object_of b t) (symbol_of (object_of b t) j)

@@ -121,7 +121,7 @@ module _ (x : Object) (valid : ValidObject x) (small : IsSmall x) where
   symbol_kept_back : (j : ℕ) → j < length x.symbols → is_kept_symbol (canonical x) j ≡ true
   symbol_kept_back j lt =
       kept_symbol_is (canonical x) x.order x.flags (section_rows x) (row_count x) (canonical_is x) (is_writable x small valid) (symtab_row x) (symtab_row x + 1) (symbol_at x)
-      (length x.symbols) (are_symbols x valid small) j lt ∙ row_kept x valid small j lt
+      (length x.symbols) (are_symbols x valid small) j lt (row_kept x valid small j lt)
 
   -- the symbols keep theirs
   symbol_number_back : (j : ℕ) → j ≤ length x.symbols → symbol_number (canonical x) j ≡ j

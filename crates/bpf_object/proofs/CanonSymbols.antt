@@ -1,14 +1,14 @@
 -- A canonical file keeps the rules on its symbols and relocations, and so all rules.
-use Rattle.std.proofs.Common.{◌≡◌, ℕ, suc, ◌+◌, ◌-◌, ◌<◌, ◌⊎◌, ◌==◌, ◌&&◌, ◌||◌, true, false, not, List, [], ◌++◌, Option, length, replicate, if◌then◌else◌, inl, inr, refl, sym, ap, subst, ◌∙◌, arith}
+use Rattle.std.proofs.Common.{◌≡◌, ℕ, suc, ◌+◌, ◌-◌, ◌<◌, ◌⊎◌, ◌==◌, ◌&&◌, ◌||◌, Bool, true, false, not, List, [], ◌++◌, Option, length, replicate, if◌then◌else◌, inl, inr, refl, sym, ap, subst, ◌∙◌, arith}
 use Rattle.std.specs.Prelude.{nat_lt, nat_le}
 use Rattle.std.specs.List.{flat_map}
 use Rattle.std.proofs.lemmas.Bool.{and_from, or_left, or_right}
 use Rattle.bpf_words.specs.declared.Order.{Order, TheVariants.Little, TheVariants.Big}
 use Rattle.bpf_elf.specs.declared.kinds.Kind.{Kind}
 use Rattle.bpf_elf.specs.declared.kinds.Kind.TheVariants.{Relocations, Symbols}
-use Rattle.bpf_elf.specs.Names.{is_closed}
+use Rattle.bpf_elf.specs.Names.{is_closed, string_at}
 use Rattle.bpf_elf.specs.Kinds.{SHT_REL, is_kind}
-use Rattle.bpf_elf.specs.Symbols.{is_special, is_local, is_file_name}
+use Rattle.bpf_elf.specs.Symbols.{is_special, is_local, is_file_name, is_label_name, is_code}
 use Rattle.bpf_elf.specs.ElfRules.{IsElf}
 use Rattle.bpf_elf.proofs.KindLemmas.{relocations_type, true_false}
 use Rattle.bpf_object.specs.File.{WrittenSection}
@@ -16,14 +16,14 @@ use Rattle.bpf_object.specs.Objects.{KeptRelocation, KeptSymbol, Object}
 use Rattle.bpf_object.specs.Canonical.{types_names, symbol_bytes, row_bytes, symtab_number, canonical}
 use Rattle.bpf_object.proofs.ReadBackTests.{less_test, most_test}
 use Rattle.bpf_object.proofs.ReadBackRows.{rows, flat_map_rows}
-use Rattle.bpf_object.proofs.ReadBackKinds.{written_kind}
-use Rattle.bpf_object.proofs.ReadBackSymbols.{WrittenSymbol, SymbolFits, AreSymbols, row_of, written_size, is_written_data, has_written_section, is_written_within}
-use Rattle.bpf_object.proofs.ReadBackRelocations.{WrittenRelocation, AreRelocations, is_written_kept, elf_holds}
-use Rattle.bpf_object.proofs.CanonValid.{section_of, symbol_of, kind_of_section, relocation_of, no_symbol, no_relocation, IsDataOf, IsValidData, IsValidTable, IsPlacedIn, ValidObject, IsSmall}
-use Rattle.bpf_object.proofs.CanonNames.{new_name_offset, name_table_closed, empty_name_offset, file_name_inside, symbol_name_there}
+use Rattle.bpf_object.proofs.ReadBackKinds.{written_name, written_type, written_flags, written_kind}
+use Rattle.bpf_object.proofs.ReadBackSymbols.{WrittenSymbol, SymbolFits, AreSymbols, row_of, written_size, is_written_data, is_written_loadable, has_written_section, is_written_within}
+use Rattle.bpf_object.proofs.ReadBackRelocations.{WrittenRelocation, AreRelocations, written_symbol_name, is_written_label, is_written_kept, code_same, special_same, elf_holds}
+use Rattle.bpf_object.proofs.CanonValid.{section_of, symbol_of, kind_of_section, relocation_of, no_symbol, no_relocation, IsDataOf, IsValidData, IsValidTable, IsPlacedIn, is_label_in, ValidObject, IsSmall}
+use Rattle.bpf_object.proofs.CanonNames.{new_name_offset, name_table_closed, empty_name_offset, file_name_inside, file_name_reads, symbol_name_there}
 use Rattle.bpf_object.proofs.CanonRows.{section_rows, row_count, canonical_is, symtab_row, kept_row, row_count_is, symtab_is, strtab_is, symtab_kind, own_not_table}
 use Rattle.bpf_object.proofs.CanonFields.{split_row, table_short, symbols_short, is_writable}
-use Rattle.bpf_object.proofs.CanonSections.{not_both, own_kind_is, kept_kind_is, own_found, data_row_there, are_sections}
+use Rattle.bpf_object.proofs.CanonSections.{not_both, own_kind_is, kept_name_is, kept_kind_is, own_found, data_row_there, are_sections}
 
 -- ---- symbols
 
@@ -93,10 +93,9 @@ module _ (x : Object) (valid : ValidObject x) (small : IsSmall x) where
       or_right (is_special s.section) (outside || nat_le (s.value + s.size) (written_size (section_rows x) s.section))
       (or_right outside (nat_le (s.value + s.size) (written_size (section_rows x) s.section)) (most_test (s.value + s.size) (written_size (section_rows x) s.section) (omega (arith, within, data_size s.section its.section))))
 
-  -- each is kept again
-  pub placed_kept : (s : KeptSymbol) → (is_special s.section ≡ true) ⊎ IsPlacedIn x s → is_file_name s.info s.section ≡ false
-      → is_written_kept (section_rows x) (row_count x) (symbol_row_of x s) ≡ true
-  placed_kept s place not_file =
+  placed_loadable : (s : KeptSymbol) → (is_special s.section ≡ true) ⊎ IsPlacedIn x s → is_file_name s.info s.section ≡ false
+      → is_written_loadable (section_rows x) (row_count x) (symbol_row_of x s) ≡ true
+  placed_loadable s place not_file =
       let inside = is_written_data (section_rows x) (row_count x) s.section in
       and_from (is_special s.section || inside) (not (is_file_name s.info s.section))
       (elim place [
@@ -122,12 +121,55 @@ module _ (x : Object) (valid : ValidObject x) (small : IsSmall x) where
         named = symbol_named;
         sections = λ j lt. placed_section (symbol_of x j) (valid.symbols j lt).place;
         within = λ j lt. placed_within (symbol_of x j) (valid.symbols j lt).place;
+        loadable = λ j lt. placed_loadable (symbol_of x j) (valid.symbols j lt).place (valid.symbols j lt).not_file;
       }
 
-  -- ---- relocations
+  -- each is kept again
+  code_is : (s : KeptSymbol) → IsPlacedIn x s
+      → is_code (written_type (section_rows x) s.section) (written_name (section_rows x) (row_count x) s.section) (written_flags (section_rows x) s.section)
+          ≡ (let c = section_of x (s.section - 1) in is_code c.type c.name c.flags)
+  code_is s its =
+      let some = its.section.some in
+      let there = its.section.there in
+      let i = s.section - 1 in
+      let at : suc i ≡ s.section = omega (arith, some) in
+      let lt : i < length x.sections = omega (arith, some, there) in
+      subst
+      (λ (m : ℕ). is_code (written_type (section_rows x) m) (written_name (section_rows x) (row_count x) m) (written_flags (section_rows x) m)
+          ≡ (let c = section_of x i in is_code c.type c.name c.flags))
+      at
+      (code_same _ _ _ _ _ _ (ap (λ (w : WrittenSection). w.type) (kept_row x i lt)) (kept_name_is x valid i lt) (ap (λ (w : WrittenSection). w.flags) (kept_row x i lt)))
 
-  pub row_kept : (j : ℕ) → j < length x.symbols → is_written_kept (section_rows x) (row_count x) (symbol_at x j) ≡ true
-  row_kept j lt = placed_kept (symbol_of x j) (valid.symbols j lt).place (valid.symbols j lt).not_file
+  placed_label : (s : KeptSymbol) → (is_special s.section ≡ true) ⊎ IsPlacedIn x s
+      → (is_label_name s.info s.other s.name
+          && (not (is_special s.section) && is_code (written_type (section_rows x) s.section) (written_name (section_rows x) (row_count x) s.section) (written_flags (section_rows x) s.section)))
+          ≡ is_label_in x s
+  placed_label s (inl special) = special_same (is_label_name s.info s.other s.name) (is_special s.section) _ _ special
+  placed_label s (inr its) = ap (λ (c : Bool). is_label_name s.info s.other s.name && (not (is_special s.section) && c)) (code_is s its)
+
+  symbol_named_back : (j : ℕ) → j < length x.symbols → written_symbol_name (section_rows x) (symtab_row x + 1) (symbol_at x j) ≡ (symbol_of x j).name
+  symbol_named_back j lt =
+      let s = symbol_of x j in
+      ap (λ (w : WrittenSection). string_at w.content (new_name_offset x s.name)) (strtab_is x)
+      ∙ file_name_reads x s.name (symbol_name_there x j lt) (valid.symbols j lt).name
+
+  row_label : (j : ℕ) → j < length x.symbols → is_written_label (section_rows x) (row_count x) (symtab_row x + 1) (symbol_at x j) ≡ is_label_in x (symbol_of x j)
+  row_label j lt =
+      let s = symbol_of x j in
+      ap
+      (λ (t : List ℕ). is_label_name s.info s.other t
+          && (not (is_special s.section) && is_code (written_type (section_rows x) s.section) (written_name (section_rows x) (row_count x) s.section) (written_flags (section_rows x) s.section)))
+      (symbol_named_back j lt)
+      ∙ placed_label s (valid.symbols j lt).place
+
+  pub row_kept : (j : ℕ) → j < length x.symbols → is_written_kept (section_rows x) (row_count x) (symtab_row x + 1) (symbol_at x j) ≡ true
+  row_kept j lt =
+      let its = valid.symbols j lt in
+      and_from (is_written_loadable (section_rows x) (row_count x) (symbol_at x j)) (not (is_written_label (section_rows x) (row_count x) (symtab_row x + 1) (symbol_at x j)))
+      (placed_loadable (symbol_of x j) its.place its.not_file)
+      (ap not (row_label j lt ∙ its.not_label))
+
+  -- ---- relocations
 
   pub table_link : (i : ℕ) → i < length x.sections → IsValidTable x (section_of x i) → (section_rows x i).link ≡ suc (symtab_row x)
   table_link i lt its =
@@ -143,7 +185,7 @@ module _ (x : Object) (valid : ValidObject x) (small : IsSmall x) where
       ∙ flat_map_rows (row_bytes x.order) (section_of x i).relocations no_relocation
 
   unfoldable pub are_relocations : (i : ℕ) → i < length x.sections → IsValidTable x (section_of x i)
-      → AreRelocations x.order (section_rows x) (row_count x) (symtab_row x) (symbol_at x) (length x.symbols) i
+      → AreRelocations x.order (section_rows x) (row_count x) (symtab_row x) (symtab_row x + 1) (symbol_at x) (length x.symbols) i
   are_relocations i lt its = record {
     count = length (section_of x i).relocations;
     relocation = λ k. relocation_row_of (relocation_of (section_of x i) k);
@@ -156,13 +198,13 @@ module _ (x : Object) (valid : ValidObject x) (small : IsSmall x) where
   }
 
   kept_relocations : (i : ℕ) → i < length x.sections → is_kind Relocations (written_kind (section_rows x) (row_count x) (suc i)) ≡ true → IsValidData (section_of x i) ⊎ IsValidTable x (section_of x i)
-      → AreRelocations x.order (section_rows x) (row_count x) (symtab_row x) (symbol_at x) (length x.symbols) i
+      → AreRelocations x.order (section_rows x) (row_count x) (symtab_row x) (symtab_row x + 1) (symbol_at x) (length x.symbols) i
   kept_relocations i lt is (inl its) =
       absurd (not_both (kind_of_section (section_of x i)) its.kind (ap (λ (o : Option Kind). is_kind Relocations o) (sym (kept_kind_is x valid i lt)) ∙ is))
   kept_relocations i lt is (inr its) = are_relocations i lt its
 
   tables_are : (i : ℕ) → i < row_count x → is_kind Relocations (written_kind (section_rows x) (row_count x) (suc i)) ≡ true
-      → AreRelocations x.order (section_rows x) (row_count x) (symtab_row x) (symbol_at x) (length x.symbols) i
+      → AreRelocations x.order (section_rows x) (row_count x) (symtab_row x) (symtab_row x + 1) (symbol_at x) (length x.symbols) i
   tables_are i lt is = elim (split_row x i lt) [
     | inl first ↦ kept_relocations i first is (valid.sections i first).kept
     | inr own ↦

@@ -1,10 +1,10 @@
 -- Objects whose canonical file is accepted.
-use Rattle.std.proofs.Common.{◌≡◌, ℕ, ◌+◌, ◌-◌, ◌*◌, ◌^◌, ◌<◌, ◌≤◌, ◌⊎◌, ◌==◌, true, false, [], Option, length, get_or, if◌then◌else◌}
+use Rattle.std.proofs.Common.{◌≡◌, ℕ, ◌+◌, ◌-◌, ◌*◌, ◌^◌, ◌<◌, ◌≤◌, ◌⊎◌, ◌==◌, ◌&&◌, not, Bool, true, false, [], Option, length, get_or, if◌then◌else◌}
 use Rattle.bpf_elf.specs.declared.kinds.Kind.{Kind}
 use Rattle.bpf_elf.specs.declared.kinds.Kind.TheVariants.{Data, Relocations}
 use Rattle.bpf_elf.specs.Kinds.{SHT_NOBITS, kind_of, is_kind}
 use Rattle.bpf_elf.specs.Sections.{is_table_name}
-use Rattle.bpf_elf.specs.Symbols.{is_special, is_file_name}
+use Rattle.bpf_elf.specs.Symbols.{is_special, is_file_name, is_label_name, is_code}
 use Rattle.btf_raw.specs.Names.{IsWithoutNul}
 use Rattle.bpf_object.specs.Objects.{KeptRelocation, KeptSection, KeptSymbol, Object}
 use Rattle.bpf_object.specs.Canonical.{written_sections, canonical}
@@ -93,6 +93,12 @@ pub record IsPlacedIn (x : Object) (s : KeptSymbol) : Type 0 where
   pub section : IsDataOf x s.section
   pub within : s.value + s.size ≤ (section_of x (s.section - 1)).size
 
+-- a symbol is a label of the compiler in code
+abbrev pub is_label_in : Object → KeptSymbol → Bool
+is_label_in x s =
+    is_label_name s.info s.other s.name
+    && (not (is_special s.section) && (let c = section_of x (s.section - 1) in is_code c.type c.name c.flags))
+
 pub record IsValidSymbol (x : Object) (s : KeptSymbol) : Type 0 where
   pub name : IsWithoutNul s.name
   pub info : s.info < 256
@@ -102,6 +108,7 @@ pub record IsValidSymbol (x : Object) (s : KeptSymbol) : Type 0 where
   pub size : s.size < 2 ^ 64
   pub place : (is_special s.section ≡ true) ⊎ IsPlacedIn x s
   pub not_file : is_file_name s.info s.section ≡ false
+  pub not_label : is_label_in x s ≡ false
 
 -- ---- objects
 

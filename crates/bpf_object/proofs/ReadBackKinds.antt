@@ -21,6 +21,15 @@ abbrev pub written_name : (ℕ → WrittenSection) → ℕ → ℕ → List ℕ
 written_name s n zero = string_at (s (n - 1)).content 0
 written_name s n (suc i) = string_at (s (n - 1)).content (s i).name_offset
 
+-- its type and flags
+abbrev pub written_type : (ℕ → WrittenSection) → ℕ → ℕ
+written_type s zero = 0
+written_type s (suc i) = (s i).type
+
+abbrev pub written_flags : (ℕ → WrittenSection) → ℕ → ℕ
+written_flags s zero = 0
+written_flags s (suc i) = (s i).flags
+
 -- its kind, of which the first row has none
 abbrev pub written_kind : (ℕ → WrittenSection) → ℕ → ℕ → Option Kind
 written_kind s n zero = None
@@ -70,7 +79,7 @@ module _ (b : List ℕ) (o : Order) (flags : ℕ) (s : ℕ → WrittenSection) (
   row_name zero lt = zero_name_is b o flags s n is w
   row_name (suc i) lt = ap (λ (k : ℕ). name b k) (next i) ∙ name_is b o flags s n is w i (omega (arith, lt))
 
-  row_flags : (i : ℕ) → i < n → number.flags b (suc i) ≡ (s i).flags
+  pub row_flags : (i : ℕ) → i < n → number.flags b (suc i) ≡ (s i).flags
   row_flags i lt = ap (λ (k : ℕ). number.flags b k) (next i) ∙ (has_header b o flags s n is w i lt).flags
 
   pub kind_is : (i : ℕ) → i < n + 1 → kind b i ≡ written_kind s n i

@@ -8,20 +8,21 @@ use Rattle.bpf_elf.specs.declared.kinds.Kind.TheVariants.{Relocations}
 use Rattle.bpf_elf.specs.Rules.{AllHold, each}
 use Rattle.bpf_elf.specs.Numbers as number
 use Rattle.bpf_elf.specs.Kinds.{SHT_NOBITS, is_kind}
+use Rattle.bpf_elf.specs.Names.{string_at}
 use Rattle.bpf_elf.specs.Sections.{kind}
-use Rattle.bpf_elf.specs.Symbols.{symbols, symbol_count, symbol_rules, symbol_table_rules, st_shndx, is_special, is_local, is_file_name, is_kept, is_kept_symbol}
+use Rattle.bpf_elf.specs.Symbols.{symbols, symbol_count, symbol_rules, symbol_table_rules, st_shndx, is_special, is_local, is_label_name, is_code, is_label_of, is_label, is_loadable, is_kept_symbol, symbol_name, st_name, st_info, st_other}
 use Rattle.bpf_elf.specs.Relocations.{relocation_count, r_symbol, is_relocation_symbol, relocation_rules, form_rules, kept_table_rules, relocation_table_rules}
 use Rattle.bpf_elf.specs.ElfRules.{head_rules, all_section_rules, all_symbol_rules, IsElf}
 use Rattle.bpf_elf.proofs.{RuleLemmas.both_hold, KindLemmas.relocations_type}
 use Rattle.bpf_object.specs.File.{WrittenSection, file_of}
 use Rattle.bpf_object.proofs.ReadBackTests.{equal_test, less_test, test_below}
-use Rattle.bpf_object.proofs.ReadBackFile.{IsWritable, order_is, has_file_header, has_header}
+use Rattle.bpf_object.proofs.ReadBackFile.{IsWritable, order_is, has_file_header, has_header, has_zero_header}
 use Rattle.bpf_object.proofs.ReadBackRules.{head_holds}
 use Rattle.bpf_object.proofs.ReadBackRows.{rows}
 use Rattle.bpf_object.proofs.ReadBackTables.{relocation_row, length-relocation_row, HasRelocation, has_relocation, size_of_rows, relocation_here, relocation_count_is}
-use Rattle.bpf_object.proofs.ReadBackKinds.{written_kind, all_hold, next, kind_is}
+use Rattle.bpf_object.proofs.ReadBackKinds.{written_name, written_type, written_flags, written_kind, all_hold, next, row_type, row_name, row_flags, kind_is}
 use Rattle.bpf_object.proofs.ReadBackSectionRules.{AreSections, all_sections_hold}
-use Rattle.bpf_object.proofs.ReadBackSymbols.{WrittenSymbol, AreSymbols, is_written_data, has_written_section, symbols_at, count_of_symbols, symbol_is, data_is, symbol_table_holds, symbols_hold}
+use Rattle.bpf_object.proofs.ReadBackSymbols.{WrittenSymbol, AreSymbols, is_written_data, is_written_loadable, has_written_section, symbols_at, count_of_symbols, symbol_is, symbol_strings_are, loadable_is, symbol_table_holds, symbols_hold}
 
 -- ---- what has to be written
 
@@ -39,12 +40,21 @@ pub record RelocationFits (r : WrittenRelocation) : Type 0 where
   pub symbol : r.symbol < 2 ^ 32
   pub type : r.type < 2 ^ 32
 
+-- a symbol is a label, whose name is in another section
+abbrev pub written_symbol_name : (ℕ → WrittenSection) → ℕ → WrittenSymbol → List ℕ
+written_symbol_name s names x = string_at (s names).content x.name_offset
+
+abbrev pub is_written_label : (ℕ → WrittenSection) → ℕ → ℕ → WrittenSymbol → Bool
+is_written_label s n names x =
+    is_label_name x.info x.other (written_symbol_name s names x)
+    && (not (is_special x.section) && is_code (written_type s x.section) (written_name s n x.section) (written_flags s x.section))
+
 -- a canonical file has the symbol
-abbrev pub is_written_kept : (ℕ → WrittenSection) → ℕ → WrittenSymbol → Bool
-is_written_kept s n x = (is_special x.section || is_written_data s n x.section) && not (is_file_name x.info x.section)
+abbrev pub is_written_kept : (ℕ → WrittenSection) → ℕ → ℕ → WrittenSymbol → Bool
+is_written_kept s n names x = is_written_loadable s n x && not (is_written_label s n names x)
 
 -- the section i is a table of relocations by the first m symbols, which are in another section
-pub record AreRelocations (o : Order) (s : ℕ → WrittenSection) (n place : ℕ) (symbol : ℕ → WrittenSymbol) (m i : ℕ) : Type 0 where
+pub record AreRelocations (o : Order) (s : ℕ → WrittenSection) (n place names : ℕ) (symbol : ℕ → WrittenSymbol) (m i : ℕ) : Type 0 where
   pub count : ℕ
   pub relocation : ℕ → WrittenRelocation
   pub table : (s i).content ≡ rows (λ k. row_of_relocation o (relocation k)) count
@@ -52,7 +62,7 @@ pub record AreRelocations (o : Order) (s : ℕ → WrittenSection) (n place : �
   pub link : (s i).link ≡ suc place
   pub fits : (k : ℕ) → k < count → RelocationFits (relocation k)
   pub there : (k : ℕ) → k < count → (relocation k).symbol < m
-  pub kept : (k : ℕ) → k < count → is_written_kept s n (symbol (relocation k).symbol) ≡ true
+  pub kept : (k : ℕ) → k < count → is_written_kept s n names (symbol (relocation k).symbol) ≡ true
 
 -- ---- rules
 
@@ -67,36 +77,63 @@ form_hold b i whole entry link = rw (whole, entry, link) refl
 relocation_hold : (b : List ℕ) (i k : ℕ) → is_relocation_symbol b (r_symbol b i k) ≡ true → AllHold (relocation_rules b i k)
 relocation_hold b i k h = rw h refl
 
--- a test of a section that is special, or that is one of n + 1
-kept_same : (b : List ℕ) (s : ℕ → WrittenSection) (n : ℕ) (x : WrittenSymbol) → is_special x.section ≡ true → is_kept b x.info x.section ≡ is_written_kept s n x
-kept_same b s n x special = rw special refl
+-- the type, name and flags of a section
+pub code_same : (t u f g : ℕ) (m n : List ℕ) → t ≡ u → m ≡ n → f ≡ g → is_code t m f ≡ is_code u n g
+code_same t u f g m n types names flags = rw (types, names, flags) refl
+
+-- a symbol in a special section is no label
+pub special_same : (x y c d : Bool) → y ≡ true → (x && (not y && c)) ≡ (x && (not y && d))
+special_same x y c d special = rw special refl
 
 module _ (b : List ℕ) (o : Order) (flags : ℕ) (s : ℕ → WrittenSection) (n : ℕ) (is : b ≡ file_of o flags s n) (w : IsWritable flags s n)
     (place names : ℕ) (symbol : ℕ → WrittenSymbol) (m : ℕ) (t : AreSymbols o s n place names symbol m) where
   -- ---- the symbols that a canonical file has
 
-  kept_there : (x : WrittenSymbol) → has_written_section s n x ≡ true → is_kept b x.info x.section ≡ is_written_kept s n x
-  kept_there x h =
+  type_there : (i : ℕ) → i < n + 1 → number.type b i ≡ written_type s i
+  type_there zero lt = (has_zero_header b o flags s n is w).type
+  type_there (suc i) lt = row_type b o flags s n is w i (omega (arith, lt))
+
+  flags_there : (i : ℕ) → i < n + 1 → number.flags b i ≡ written_flags s i
+  flags_there zero lt = (has_zero_header b o flags s n is w).flags
+  flags_there (suc i) lt = row_flags b o flags s n is w i (omega (arith, lt))
+
+  label_there : (x : WrittenSymbol) (named : List ℕ) → has_written_section s n x ≡ true
+      → is_label_of b x.info x.other x.section named
+          ≡ (is_label_name x.info x.other named && (not (is_special x.section) && is_code (written_type s x.section) (written_name s n x.section) (written_flags s x.section)))
+  label_there x named h =
       elim (or_cases (is_special x.section) (nat_lt x.section (n + 1) && (is_local x.info || is_written_data s n x.section)) h) [
-        | inl special ↦ kept_same b s n x special
+        | inl special ↦ special_same (is_label_name x.info x.other named) (is_special x.section) _ _ special
         | inr its ↦
             let lt = test_below x.section (n + 1) (and_parts (nat_lt x.section (n + 1)) (is_local x.info || is_written_data s n x.section) its).0 in
-            ap (λ (d : Bool). (is_special x.section || d) && not (is_file_name x.info x.section)) (data_is b o flags s n is w place names symbol m t x.section lt)
+            ap (λ (c : Bool). is_label_name x.info x.other named && (not (is_special x.section) && c))
+            (code_same _ _ _ _ _ _ (type_there x.section lt) (row_name b o flags s n is w x.section lt) (flags_there x.section lt))
       ]
 
-  pub kept_symbol_is : (j : ℕ) → j < m → is_kept_symbol b j ≡ is_written_kept s n (symbol j)
-  kept_symbol_is j lt =
+  label_is : (j : ℕ) → j < m → is_label b j ≡ is_written_label s n names (symbol j)
+  label_is j lt =
       let its = symbol_is b o flags s n is w place names symbol m t j lt in
-      ap (λ (i : ℕ). is_kept b i (st_shndx b j)) its.info_is ∙ ap (λ (i : ℕ). is_kept b (symbol j).info i) its.shndx_is ∙ kept_there (symbol j) (t.sections j lt)
+      let x = symbol j in
+      let named : symbol_name b j ≡ written_symbol_name s names x =
+      ap (λ (t : List ℕ). string_at t (st_name b j)) (symbol_strings_are b o flags s n is w place names symbol m t) ∙ ap (λ (k : ℕ). string_at (s names).content k) its.name_is in
+      ap (λ (i : ℕ). is_label_of b i (st_other b j) (st_shndx b j) (symbol_name b j)) its.info_is
+      ∙ ap (λ (i : ℕ). is_label_of b x.info i (st_shndx b j) (symbol_name b j)) its.other_is
+      ∙ ap (λ (i : ℕ). is_label_of b x.info x.other i (symbol_name b j)) its.shndx_is ∙ ap (λ (t : List ℕ). is_label_of b x.info x.other x.section t) named
+      ∙ label_there x (written_symbol_name s names x) (t.sections j lt)
 
-  relocation_symbol : (j : ℕ) → j < m → is_written_kept s n (symbol j) ≡ true → is_relocation_symbol b j ≡ true
+  pub kept_symbol_is : (j : ℕ) → j < m → is_written_kept s n names (symbol j) ≡ true → is_kept_symbol b j ≡ true
+  kept_symbol_is j lt kept =
+      let parts = and_parts (is_written_loadable s n (symbol j)) (not (is_written_label s n names (symbol j))) kept in
+      and_from (is_loadable b (st_info b j) (st_shndx b j)) (not (is_label b j)) (loadable_is b o flags s n is w place names symbol m t j lt)
+      (ap not (label_is j lt) ∙ parts.1)
+
+  relocation_symbol : (j : ℕ) → j < m → is_written_kept s n names (symbol j) ≡ true → is_relocation_symbol b j ≡ true
   relocation_symbol j lt kept =
       let count = count_of_symbols b o flags s n is w place names symbol m t in
-      and_from (nat_lt j (symbol_count b)) (is_kept_symbol b j) (less_test j (symbol_count b) (omega (arith, lt, count))) (kept_symbol_is j lt ∙ kept)
+      and_from (nat_lt j (symbol_count b)) (is_kept_symbol b j) (less_test j (symbol_count b) (omega (arith, lt, count))) (kept_symbol_is j lt kept)
 
   -- ---- a table of relocations
 
-  module _ (i : ℕ) (below : i < n) (its : AreRelocations o s n place symbol m i) (bits : ((s i).type == SHT_NOBITS) ≡ false) where
+  module _ (i : ℕ) (below : i < n) (its : AreRelocations o s n place names symbol m i) (bits : ((s i).type == SHT_NOBITS) ≡ false) where
     each_length : (k : ℕ) → length (row_of_relocation o (its.relocation k)) ≡ 16
     each_length k = length-relocation_row o (its.relocation k).offset (its.relocation k).symbol (its.relocation k).type
 
@@ -127,7 +164,7 @@ module _ (b : List ℕ) (o : Order) (flags : ℕ) (s : ℕ → WrittenSection) (
         both_hold (form_rules b (i + 1)) (each (relocation_count b (i + 1)) (relocation_rules b (i + 1))) form_holds
         (all_hold (relocation_count b (i + 1)) (relocation_rules b (i + 1)) (λ k lt. relocation_holds k (omega (arith, lt, count_of_relocations))))
 
-  table_holds : (i : ℕ) → i < n → (is_kind Relocations (written_kind s n (suc i)) ≡ true → AreRelocations o s n place symbol m i)
+  table_holds : (i : ℕ) → i < n → (is_kind Relocations (written_kind s n (suc i)) ≡ true → AreRelocations o s n place names symbol m i)
       → AllHold (relocation_table_rules b (suc i))
   table_holds i below its =
       let same : is_kind Relocations (kind b (suc i)) ≡ is_kind Relocations (written_kind s n (suc i)) = ap (λ (k : Option Kind). is_kind Relocations k) (kind_is b o flags s n is w (suc i) (omega (arith, below))) in
@@ -136,7 +173,7 @@ module _ (b : List ℕ) (o : Order) (flags : ℕ) (s : ℕ → WrittenSection) (
       let bits : ((s i).type == SHT_NOBITS) ≡ false = ap (λ (k : ℕ). k == SHT_NOBITS) (relocations_type (s i).type _ (s i).flags kept) in
       subst (λ (k : ℕ). AllHold (kept_table_rules b k)) (sym (next i)) (kept_table_holds i below (its kept) bits))
 
-  tables_hold : ((i : ℕ) → i < n → is_kind Relocations (written_kind s n (suc i)) ≡ true → AreRelocations o s n place symbol m i)
+  tables_hold : ((i : ℕ) → i < n → is_kind Relocations (written_kind s n (suc i)) ≡ true → AreRelocations o s n place names symbol m i)
       → AllHold (each (number.count b) (relocation_table_rules b))
   tables_hold its = all_hold (number.count b) (relocation_table_rules b) row
     where
@@ -146,7 +183,7 @@ module _ (b : List ℕ) (o : Order) (flags : ℕ) (s : ℕ → WrittenSection) (
 
   -- ---- all rules
 
-  pub elf_holds : AreSections s n → ((i : ℕ) → i < n → is_kind Relocations (written_kind s n (suc i)) ≡ true → AreRelocations o s n place symbol m i) → IsElf b
+  pub elf_holds : AreSections s n → ((i : ℕ) → i < n → is_kind Relocations (written_kind s n (suc i)) ≡ true → AreRelocations o s n place names symbol m i) → IsElf b
   elf_holds sections its =
       both_hold (head_rules b) (all_section_rules b ++ all_symbol_rules b) (head_holds b o flags s n is w)
       (both_hold (all_section_rules b) (all_symbol_rules b) (all_sections_hold b o flags s n is w sections)

@@ -10,7 +10,7 @@ use Rattle.bpf_elf.specs.Numbers as number
 use Rattle.bpf_elf.specs.Names.{is_closed}
 use Rattle.bpf_elf.specs.Kinds.{SHT_STRTAB, SHT_NOBITS, is_kind}
 use Rattle.bpf_elf.specs.Sections.{content, is_string_table, is_zero_at}
-use Rattle.bpf_elf.specs.Symbols.{symbols, symbol_count, symbol_offset, symbol_strings, st_name, st_info, st_shndx, st_value, st_size, is_special, is_local, is_data, has_section, is_within, symbol_table_rules, symbol_rules}
+use Rattle.bpf_elf.specs.Symbols.{symbols, symbol_count, symbol_offset, symbol_strings, symbol_name, st_name, st_info, st_other, st_shndx, st_value, st_size, is_special, is_local, is_data, is_file_name, is_loadable, is_unread, is_droppable, has_section, is_within, symbol_table_rules, symbol_rules}
 use Rattle.bpf_elf.proofs.{RuleLemmas.first_of_there, KindLemmas.symbols_type}
 use Rattle.bpf_object.specs.File.{WrittenSection, file_of}
 use Rattle.bpf_object.proofs.ReadBackTests.{equal_test, most_test, less_test, test_below}
@@ -64,6 +64,9 @@ has_written_section s n x = section_test (n + 1) (is_written_data s n x.section)
 abbrev pub is_written_within : (ℕ → WrittenSection) → ℕ → WrittenSymbol → Bool
 is_written_within s n x = within_test (is_written_data s n x.section) (written_size s x.section) x.section x.value x.size
 
+abbrev pub is_written_loadable : (ℕ → WrittenSection) → ℕ → WrittenSymbol → Bool
+is_written_loadable s n x = (is_special x.section || is_written_data s n x.section) && not (is_file_name x.info x.section)
+
 -- the section at an offset has m symbols, of which the first one is zero, and another section their names
 pub record AreSymbols (o : Order) (s : ℕ → WrittenSection) (n place names : ℕ) (symbol : ℕ → WrittenSymbol) (m : ℕ) : Type 0 where
   pub section : written_section s n Symbols (n + 1) ≡ suc place
@@ -79,6 +82,7 @@ pub record AreSymbols (o : Order) (s : ℕ → WrittenSection) (n place names : 
   pub named : (j : ℕ) → j < m → (symbol j).name_offset < length (s names).content
   pub sections : (j : ℕ) → j < m → has_written_section s n (symbol j) ≡ true
   pub within : (j : ℕ) → j < m → is_written_within s n (symbol j) ≡ true
+  pub loadable : (j : ℕ) → j < m → is_written_loadable s n (symbol j) ≡ true
 
 -- ---- tests
 
@@ -88,8 +92,12 @@ table_hold : (b : List ℕ) → nat_lt 0 (symbols b) ≡ true → (nat_le 24 (nu
 table_hold b there whole entry names first = rw (there, whole, entry, names, first) refl
 
 symbol_hold : (b : List ℕ) (j : ℕ) → nat_lt (st_name b j) (length (symbol_strings b)) ≡ true → has_section b (st_info b j) (st_shndx b j) ≡ true
-    → is_within b (st_shndx b j) (st_value b j) (st_size b j) ≡ true → AllHold (symbol_rules b j)
-symbol_hold b j named section within = rw (named, section, within) refl
+    → is_within b (st_shndx b j) (st_value b j) (st_size b j) ≡ true → is_droppable b j ≡ true → AllHold (symbol_rules b j)
+symbol_hold b j named section within droppable = rw (named, section, within, droppable) refl
+
+-- a test of a section that is special, or that is one of n + 1
+loadable_same : (b : List ℕ) (s : ℕ → WrittenSection) (n : ℕ) (x : WrittenSymbol) → is_special x.section ≡ true → is_loadable b x.info x.section ≡ is_written_loadable s n x
+loadable_same b s n x special = rw special refl
 
 module _ (b : List ℕ) (o : Order) (flags : ℕ) (s : ℕ → WrittenSection) (n : ℕ) (is : b ≡ file_of o flags s n) (w : IsWritable flags s n)
     (place names : ℕ) (symbol : ℕ → WrittenSymbol) (m : ℕ) (t : AreSymbols o s n place names symbol m) where
@@ -192,6 +200,21 @@ module _ (b : List ℕ) (o : Order) (flags : ℕ) (s : ℕ → WrittenSection) (
             ∙ ap (λ (z : ℕ). within_test (is_written_data s n x.section) z x.section x.value x.size) (row_size x.section lt) ∙ k
       ]
 
+  loadable_there : (x : WrittenSymbol) → has_written_section s n x ≡ true → is_loadable b x.info x.section ≡ is_written_loadable s n x
+  loadable_there x h =
+      elim (or_cases (is_special x.section) (nat_lt x.section (n + 1) && (is_local x.info || is_written_data s n x.section)) h) [
+        | inl special ↦ loadable_same b s n x special
+        | inr its ↦
+            let lt = test_below x.section (n + 1) (and_parts (nat_lt x.section (n + 1)) (is_local x.info || is_written_data s n x.section) its).0 in
+            ap (λ (d : Bool). (is_special x.section || d) && not (is_file_name x.info x.section)) (data_is x.section lt)
+      ]
+
+  pub loadable_is : (j : ℕ) → j < m → is_loadable b (st_info b j) (st_shndx b j) ≡ true
+  loadable_is j lt =
+      let its = symbol_is j lt in
+      ap (λ (i : ℕ). is_loadable b i (st_shndx b j)) its.info_is ∙ ap (λ (i : ℕ). is_loadable b (symbol j).info i) its.shndx_is
+      ∙ loadable_there (symbol j) (t.sections j lt) ∙ t.loadable j lt
+
   symbol_holds : (j : ℕ) → j < m → AllHold (symbol_rules b j)
   symbol_holds j lt =
       let x = symbol j in
@@ -203,6 +226,7 @@ module _ (b : List ℕ) (o : Order) (flags : ℕ) (s : ℕ → WrittenSection) (
       (ap (λ (i : ℕ). has_section b i (st_shndx b j)) its.info_is ∙ ap (λ (i : ℕ). has_section b x.info i) its.shndx_is ∙ section_there x (t.sections j lt))
       (ap (λ (i : ℕ). is_within b i (st_value b j) (st_size b j)) its.shndx_is ∙ ap (λ (i : ℕ). is_within b x.section i (st_size b j)) its.value_is
       ∙ ap (λ (i : ℕ). is_within b x.section x.value i) its.size_is ∙ within_there x (t.sections j lt) (t.within j lt))
+      (or_left (is_loadable b (st_info b j) (st_shndx b j)) (is_unread (st_info b j) (st_other b j) (st_value b j) (symbol_name b j)) (loadable_is j lt))
 
   pub symbols_hold : AllHold (each (symbol_count b) (symbol_rules b))
   symbols_hold = all_hold (symbol_count b) (symbol_rules b) (λ j lt. symbol_holds j (omega (arith, lt, count_of_symbols)))

@@ -3,7 +3,7 @@ use Rattle.std.proofs.Common.{◌≡◌, ℕ, zero, suc, ◌<◌, ◌≤◌, ◌
 use Rattle.std.specs.Prelude.{nat_eq, nat_lt, min, unwrap_or}
 use Rattle.std.specs.{List.take_while, List.prefix_len, List.position, Str.bytes_eq}
 use Rattle.std.proofs.lemmas.{Bool.cases_lt, Bool.Decides.nat_tests, List.drop-take, List.take_min, List.Sums.take_while-cons, List.Sums.prefix_len-le-length}
-use Rattle.bpf_elf.specs.Kinds.{is_reserved, is_unrelocated, is_unread_table, is_strings_name, begins}
+use Rattle.bpf_elf.specs.Kinds.{is_reserved, is_unrelocated, is_unread_table, is_strings_name, is_refused_name, begins}
 
 take_twice : {X : Type 0} (k n : ℕ) (xs : List X) → k ≤ n → take k (take n xs) ≡ take k xs
 take_twice zero n xs le = refl
@@ -42,12 +42,17 @@ unread_start xs =
 strings_start : (xs : List ℕ) → is_strings_name (take 16 xs) ≡ is_strings_name xs
 strings_start xs = or_same _ _ _ _ (equal_start 16 xs (codes ".strtab") (lit< tt)) (equal_start 16 xs (codes ".shstrtab") (lit< tt))
 
+refused_start : (xs : List ℕ) → is_refused_name (take 16 xs) ≡ is_refused_name xs
+refused_start xs = or_same _ _ _ _ (equal_start 16 xs (codes ".llvm.lto") (lit< tt)) (equal_start 16 xs (codes ".BTF.base") (lit< tt))
+
 reserved_start : (xs : List ℕ) → is_reserved (take 16 xs) ≡ is_reserved xs
 reserved_start xs =
     or_same _ _ _ _
+    (or_same _ _ _ _
     (or_same _ _ _ _ (or_same _ _ _ _ (or_same _ _ _ _ (unrelocated_start 16 xs (lit< tt)) (unread_start xs)) (strings_start xs))
     (equal_start 16 xs (codes ".symtab") (lit< tt)))
-    (equal_start 16 xs (codes ".llvm_addrsig") (lit< tt))
+    (equal_start 16 xs (codes ".llvm_addrsig") (lit< tt)))
+    (refused_start xs)
 
 -- ---- the name in a part of the strings
 

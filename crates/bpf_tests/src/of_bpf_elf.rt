@@ -95,7 +95,7 @@ const REFUSED: &[Refused] = &[
     Refused("EI_CLASS is ELFCLASS32", 4, 1, 4, ElfCause::Class),
     Refused("e_machine is EM_X86_64", 18, 62, 18, ElfCause::Machine),
     Refused("e_shstrndx is the number of sections", 62, 6, 62, ElfCause::NamesIndex),
-    Refused("sh_type of xdp is SHT_NOTE", 372, 7, 372, ElfCause::SectionKind),
+    Refused("sh_type of xdp is SHT_PREINIT_ARRAY", 372, 16, 372, ElfCause::SectionKind),
     Refused("sh_size of xdp is past the file", 401, 3, 392, ElfCause::SectionCut),
     Refused("sh_info of .relxdp is .bss", 476, 4, 476, ElfCause::RelocationTarget),
     Refused("sh_name of .symtab is past the names", 560, 41, 560, ElfCause::SectionName),
@@ -123,6 +123,8 @@ fn a_changed_byte_breaks_its_rule(rt: HostRuntime) -> Result<(), AllocError> {
 const NAMES: &[(&[u8], bool)] = &[
     (b".BTF.ext", true),
     (b".rel.debug_info", true),
+    (b".BTF.base", true),
+    (b".llvm.lto", true),
     (b".shstrtab", true),
     (b".relxdp", false),
     (b".maps", false),

@@ -43,6 +43,7 @@ object_cause_number (cause.Elf elf.RelocationEntrySize) = 132
 object_cause_number (cause.Elf elf.RelocationSymbols) = 133
 object_cause_number (cause.Elf elf.RelocationSymbol) = 134
 object_cause_number (cause.Elf elf.SectionsTooLarge) = 153
+object_cause_number (cause.Elf elf.SymbolDropped) = 154
 object_cause_number cause.TypesTooLarge = 135
 object_cause_number cause.TypesOrder = 136
 object_cause_number cause.TypesLayout = 137

@@ -43,6 +43,7 @@ elf_cause_name elf.RelocationEntrySize = codes "RelocationEntrySize"
 elf_cause_name elf.RelocationSymbols = codes "RelocationSymbols"
 elf_cause_name elf.RelocationSymbol = codes "RelocationSymbol"
 elf_cause_name elf.SectionsTooLarge = codes "SectionsTooLarge"
+elf_cause_name elf.SymbolDropped = codes "SymbolDropped"
 
 -- one sentence for each cause of the ELF file
 abbrev pub elf_cause_sentence : ElfCause → List ℕ
@@ -65,7 +66,7 @@ elf_cause_sentence elf.FirstSection = codes "the first section header isn't all 
 elf_cause_sentence elf.NamesTable = codes "the names of sections aren't in a string table"
 elf_cause_sentence elf.SectionCut = codes "the section extends past the end of the file"
 elf_cause_sentence elf.SectionName = codes "the section's name is outside the names, or longer than 1,024 bytes"
-elf_cause_sentence elf.SectionKind = codes "no section of a BPF object has this type, name and flags"
+elf_cause_sentence elf.SectionKind = codes "a section of this type, name and flags can't be kept or dropped"
 elf_cause_sentence elf.SectionTwice = codes "there is a second .symtab, .BTF or .BTF.ext"
 elf_cause_sentence elf.RelocationTarget = codes "the table of relocations isn't named after its section, or that isn't code or data"
 elf_cause_sentence elf.NoSymbols = codes "there is no symbol table"
@@ -79,8 +80,9 @@ elf_cause_sentence elf.SymbolPlace = codes "the symbol extends past the end of i
 elf_cause_sentence elf.RelocationTableSize = codes "the size of the table of relocations isn't a multiple of 16"
 elf_cause_sentence elf.RelocationEntrySize = codes "sh_entsize of the table of relocations isn't 16"
 elf_cause_sentence elf.RelocationSymbols = codes "sh_link of the table of relocations isn't the symbol table"
-elf_cause_sentence elf.RelocationSymbol = codes "the relocation names no symbol, a source file, or a symbol in a section that isn't code or data"
+elf_cause_sentence elf.RelocationSymbol = codes "the relocation names no symbol, a source file, a label, or a symbol in a section that isn't code or data"
 elf_cause_sentence elf.SectionsTooLarge = codes "the sections that are kept are together longer than the file"
+elf_cause_sentence elf.SymbolDropped = codes "the symbol is dropped, but has a visibility, a value or a name that a loader may read"
 
 -- the name of each cause
 abbrev pub object_cause_name : ObjectCause → List ℕ

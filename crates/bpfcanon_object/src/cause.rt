@@ -46,6 +46,7 @@ fn elf_cause_name(cause: ElfCause) -> &'static str
         ElfCause::RelocationSymbols => "RelocationSymbols",
         ElfCause::RelocationSymbol => "RelocationSymbol",
         ElfCause::SectionsTooLarge => "SectionsTooLarge",
+        ElfCause::SymbolDropped => "SymbolDropped",
     }
 }
 
@@ -74,7 +75,7 @@ fn elf_cause_sentence(cause: ElfCause) -> &'static str
         ElfCause::SectionCut => "the section extends past the end of the file",
         ElfCause::SectionName =>
             "the section's name is outside the names, or longer than 1,024 bytes",
-        ElfCause::SectionKind => "no section of a BPF object has this type, name and flags",
+        ElfCause::SectionKind => "a section of this type, name and flags can't be kept or dropped",
         ElfCause::SectionTwice => "there is a second .symtab, .BTF or .BTF.ext",
         ElfCause::RelocationTarget =>
             "the table of relocations isn't named after its section, or that isn't code or data",
@@ -92,9 +93,11 @@ fn elf_cause_sentence(cause: ElfCause) -> &'static str
         ElfCause::RelocationEntrySize => "sh_entsize of the table of relocations isn't 16",
         ElfCause::RelocationSymbols => "sh_link of the table of relocations isn't the symbol table",
         ElfCause::RelocationSymbol =>
-            "the relocation names no symbol, a source file, or a symbol in a section that isn't code or data",
+            "the relocation names no symbol, a source file, a label, or a symbol in a section that isn't code or data",
         ElfCause::SectionsTooLarge =>
             "the sections that are kept are together longer than the file",
+        ElfCause::SymbolDropped =>
+            "the symbol is dropped, but has a visibility, a value or a name that a loader may read",
     }
 }
 

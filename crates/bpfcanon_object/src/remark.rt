@@ -15,6 +15,9 @@ use std::alloc::{AllocError, Allocator};
 /// e_machine.
 const MACHINE: usize = 18;
 
+/// sh_type of a section that has no bytes in the file.
+const SHT_NOBITS: u32 = 8;
+
 /// How many bytes of a file show whether it is text.
 const START: usize = 256;
 
@@ -48,6 +51,15 @@ fn on_machine<A: Allocator>(alloc: A, bytes: &[u8]) -> Result<String<A>, AllocEr
     }
 }
 
+/// What a section of a kind that isn't accepted tells of the file.
+fn on_kind(cause: ObjectCause, kind: u32) -> &'static str {
+    if cause == ObjectCause::Elf(ElfCause::SectionKind) && kind == SHT_NOBITS {
+        ": objcopy --only-keep-debug writes such sections, so name the file that it read"
+    } else {
+        ""
+    }
+}
+
 /// The section in whose header a fault is.
 fn on_section<A: Allocator + Copy>(
     alloc: A,
@@ -59,7 +71,8 @@ fn on_section<A: Allocator + Copy>(
     };
     let name = String::from_utf8_lossy(alloc, header.name)?;
     let (index, kind) = (header.index, header.kind);
-    format!(in alloc; " (section {index}, \"{name}\", of sh_type {kind:#x})")
+    let remedy = on_kind(fault.cause, kind);
+    format!(in alloc; " (section {index}, \"{name}\", of sh_type {kind:#x}{remedy})")
 }
 
 /// What is said of a fault of the ELF file.
