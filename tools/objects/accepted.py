@@ -12,6 +12,7 @@ from tests.objects.elf_file import FUNCTION, ElfFile, Section
 from tools.objects.edited import Edited
 
 GLOBAL = 1 << 4
+R_BPF_64_64, R_BPF_64_32 = 1, 10
 
 
 def free_fields(it: Edited) -> None:
@@ -189,4 +190,6 @@ ACCEPTED = {
     "dropped_symbols": Accepted(dropped_symbols, is_same=True),
     "kinds_of_data": Accepted(kinds_of_data),
     "loaded_debug": Accepted(loaded_debug, is_same=True),
+    "relocation_without_symbol": Accepted(lambda it: it.relocation(b".relraw_tp", "info", R_BPF_64_64)),
+    "call_without_symbol": Accepted(lambda it: it.relocation(b".relraw_tp", "info", R_BPF_64_32)),
 }

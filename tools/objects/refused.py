@@ -203,6 +203,17 @@ def sections_too_large(it: Edited) -> int:
     return int(it.section(b"license").place)
 
 
+def zeros_behind_the_file(it: Edited) -> int:
+    """A section of SHT_NOBITS, which has no bytes in the file, has an offset after the end of the file."""
+    it.row(b".maps", "type", SHT_NOBITS)
+    return it.row(b".maps", "offset", len(it.data) + 1)
+
+
+def empty_part_behind(it: Edited) -> int:
+    """The part of CO-RE relocations, which is empty, begins a word after the end of .BTF.ext."""
+    return it.put(it.content(EXTENSION) + 24, 4, len(it.bytes_of(EXTENSION)) - 32 + 4)
+
+
 class Refused(NamedTuple):
     """A refused file: its cause, what is changed, the object that it is made from, and its length if zeros follow."""
 
@@ -289,4 +300,8 @@ REFUSED = {
     "SymbolDropped.visibility": Refused("SymbolDropped", dropped_symbol(b"label", 0, other=2), "pass"),
     "SymbolDropped.file": Refused("SymbolDropped", lambda it: it.add_symbol(b"x.c", STT_FILE, SHN_ABS, other=2), "pass"),
     "RelocationSymbol.label": Refused("RelocationSymbol", label_relocation),
+    "SectionCut.no_bits": Refused("SectionCut", zeros_behind_the_file),
+    "SectionCut.empty": Refused("SectionCut", lambda it: it.row(b".text", "offset", len(it.data) + 1)),
+    "ExtensionPart.empty": Refused("ExtensionPart", empty_part_behind, "pass"),
+    "ExtensionPart.empty_odd": Refused("ExtensionPart", extension(24, 4, 2), "pass"),
 }
