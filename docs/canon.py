@@ -20,6 +20,9 @@ ET_REL, EM_BPF, BTF_MAGIC = 1, 247, 0xEB9F
 STB_LOCAL, STT_NOTYPE, STT_SECTION, STT_FILE = 0, 0, 3, 4
 SHT_PROGBITS, SHT_SYMTAB, SHT_STRTAB, SHT_NOTE, SHT_NOBITS, SHT_REL = 1, 2, 3, 7, 8, 9
 SHT_INIT_ARRAY, SHT_FINI_ARRAY, SHT_LLVM_ADDRSIG = 14, 15, 0x6FFF4C03
+# What helps with a file that isn't for BPF, and the rules that such a file breaks.
+NOT_BPF = "this isn't an object file for BPF, as clang -target bpf -O2 -g -c writes it"
+FIRST_RULES = ("FileCut", "Magic", "Class", "ByteOrder", "FileType", "Machine")
 SHF_ALLOC, SHF_EXECINSTR, SHF_COMPRESSED = 0x2, 0x4, 0x800
 SHF_INFO_LINK, SHF_LINK_ORDER, SHF_GROUP = 0x40, 0x80, 0x200
 SHN_UNDEF, SHN_LORESERVE, SHN_ABS, SHN_COMMON = 0, 0xFF00, 0xFFF1, 0xFFF2
@@ -64,10 +67,8 @@ KINDS = (
     ((SHT_PROGBITS, SHT_NOTE, SHT_INIT_ARRAY, SHT_FINI_ARRAY), (b"*",), C | I, Kind.DATA),
 )
 # The fields of a section's header, where the header is, the section's number, kind and name.
-Section = namedtuple("Section", (
-    "sh_name sh_type sh_flags sh_addr sh_offset sh_size sh_link sh_info sh_addralign sh_entsize"
-    " place number kind name"
-))  # fmt: skip
+Section = namedtuple("Section", "sh_name sh_type sh_flags sh_addr sh_offset sh_size sh_link"
+    " sh_info sh_addralign sh_entsize place number kind name")  # fmt: skip
 
 
 def is_reserved(name: bytes) -> bool:
@@ -232,8 +233,7 @@ class Elf:
             rule("SectionCut", it.place + SH_OFFSET, it.sh_offset + size <= len(self.data))
             has_end = b"\0" in names[it.sh_name : it.sh_name + MAX_SECTION_NAME + 1]
             rule("SectionName", it.place + SH_NAME, has_end)
-            name = string_at(names, it.sh_name)
-            kind = kind_of(name, it)
+            kind = kind_of(name := string_at(names, it.sh_name), it)
             rule("SectionKind", it.place + SH_TYPE, kind is not Kind.UNKNOWN)
             is_single = kind in (Kind.SYMBOLS, Kind.TYPES, Kind.EXTENSION)
             rule("SectionTwice", it.place + SH_TYPE, not is_single or self.find(kind) is None)
@@ -455,8 +455,7 @@ def read_part(elf: Elf, strings: bytes, at: int, end: int, words: int) -> list[G
     if at == end:
         return []
     rule("ExtensionRecordSize", at, unpack_from(elf.mark + "I", elf.data, at) == (4 * words,))
-    groups: list[Group] = []
-    at += 4
+    groups, at = list[Group](), at + 4
     while at < end or not groups:
         rule("ExtensionGroup", at, at + 8 <= end)
         name, num_info = unpack_from(elf.mark + "II", elf.data, at)
@@ -491,7 +490,8 @@ def main() -> None:
         with open(given.out, "wb") as file:
             file.write(result)
     except Refused as it:
-        parser.exit(1, f"{given.file}: byte {it.offset}: {it.cause}\n")
+        hint = NOT_BPF if it.cause in FIRST_RULES else "OBJECTS.md and FAULTS.md have the rules"
+        parser.exit(1, f"{given.file}: byte {it.offset}: {it.cause}: {hint}\n")
     except OSError as error:
         parser.exit(2, f"{error}\n")
 

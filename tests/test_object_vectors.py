@@ -86,10 +86,14 @@ def test_command_of_definition(tmp_path: Path) -> None:
     accepted = subprocess.run([*line, "-o", tmp_path / "out.o", FOLDER / "pass.little.debug.o"], check=False)
     assert accepted.returncode == 0
     assert (tmp_path / "out.o").read_bytes() == canonical((FOLDER / "pass.little.debug.o").read_bytes())
-    (tmp_path / "cut.o").write_bytes(b"\x7fELF")
-    refused = subprocess.run([*line, "cut.o", "-o", "none.o"], capture_output=True, cwd=tmp_path, check=False)
-    assert (refused.returncode, refused.stdout, refused.stderr) == (1, b"", b"cut.o: byte 4: FileCut\n")
-    assert not (tmp_path / "none.o").exists()
+    host = bytearray((FOLDER / "pass.little.debug.o").read_bytes())
+    host[18] = 62  # e_machine of x86-64
+    (tmp_path / "host.o").write_bytes(host)
+    (tmp_path / "source.c").write_bytes((FOLDER.parent / "pass.c").read_bytes())
+    for name, start in ("host.o", b"host.o: byte 18: Machine: "), ("source.c", b"source.c: byte 0: Magic: "):
+        refused = subprocess.run([*line, name, "-o", "none.o"], capture_output=True, cwd=tmp_path, check=False)
+        assert (refused.returncode, refused.stdout) == (1, b"") and refused.stderr.startswith(start) and b"clang -target bpf" in refused.stderr
+        assert not (tmp_path / "none.o").exists()
 
 
 @functools.lru_cache(maxsize=None)
