@@ -576,8 +576,8 @@ static const struct meaning object_causes[] = {
 	{ "RelocationEntrySize", "sh_entsize of the table of relocations isn't 16" },
 	{ "RelocationSymbols", "sh_link of the table of relocations isn't the symbol table" },
 	{ "RelocationSymbol",
-	  "the relocation names no symbol, a source file, a label, or a symbol in a "
-	  "section that isn't code or data" },
+	  "the relocation's symbol isn't in the symbol table, is a source file or a "
+	  "label, or is in a section that isn't code or data" },
 	{ "TypesTooLarge", ".BTF has more than 15,728,640 bytes" },
 	{ "TypesOrder", "the byte order of .BTF isn't that of the file" },
 	{ "TypesLayout", "type_off of .BTF isn't 0" },

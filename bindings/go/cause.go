@@ -116,7 +116,7 @@ const (
 	ErrObjectRelocationTableSize                            // the size of the table of relocations isn't a multiple of 16
 	ErrObjectRelocationEntrySize                            // sh_entsize of the table of relocations isn't 16
 	ErrObjectRelocationSymbols                              // sh_link of the table of relocations isn't the symbol table
-	ErrObjectRelocationSymbol                               // the relocation names no symbol, a source file, a label, or a symbol in a section that isn't code or data
+	ErrObjectRelocationSymbol                               // the relocation's symbol isn't in the symbol table, is a source file or a label, or is in a section that isn't code or data
 	ErrObjectTypesTooLarge                                  // .BTF has more than 15,728,640 bytes
 	ErrObjectTypesOrder                                     // the byte order of .BTF isn't that of the file
 	ErrObjectTypesLayout                                    // type_off of .BTF isn't 0

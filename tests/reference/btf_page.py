@@ -178,8 +178,8 @@ TARGETS = {kind: set(re.split(", | or ", it)) for kind, it in zip(["FUNC", "DATA
 INT_SIZES = r"a bit that must be zero is set; an undefined encoding; bits over N or over N times the size \(the offset isn't added\)"
 INT_MOST, INT_TIMES = when("IntWord", INT_SIZES)
 MEMBER_INT = (
-    r"some width in the record isn't 0, and the member's type is itself an INT \(typedefs are not followed\) whose offset isn't 0 or whose "
-    r"bits aren't ([\d, or]+)"
+    r"some width in the record isn't 0, and the type of the member is an INT, not a typedef of one, with an offset that isn't 0 or with "
+    r"bits other than ([\d, or]+)"
 )
 MEMBER_BITS = set(numbers(fitted(WHEN["MemberInt"], MEMBER_INT)[0]))
 (MOST_LINKAGE,) = when("Linkage", "over N")

@@ -106,8 +106,8 @@ call::causes! {
     RelocationEntrySize = BPFCANON_OBJECT_CAUSE_RELOCATION_ENTRY_SIZE,
     /// `sh_link` of the table of relocations isn't the symbol table.
     RelocationSymbols = BPFCANON_OBJECT_CAUSE_RELOCATION_SYMBOLS,
-    /// The relocation names no symbol, a source file, a label, or a symbol in a section that isn't
-    /// code or data.
+    /// The relocation's symbol isn't in the symbol table, is a source file or a label, or is in a
+    /// section that isn't code or data.
     RelocationSymbol = BPFCANON_OBJECT_CAUSE_RELOCATION_SYMBOL,
     /// `.BTF` has more than 15,728,640 bytes.
     TypesTooLarge = BPFCANON_OBJECT_CAUSE_TYPES_TOO_LARGE,

@@ -108,7 +108,7 @@ pub enum ElfCause {
     #[error("sh_link of the table of relocations isn't the symbol table")]
     RelocationSymbols,
     /// Reported at r_info. A symbol in SHN_UNDEF, SHN_ABS or SHN_COMMON is accepted.
-    #[error("the relocation names no symbol, a source file, a label, or a symbol in a section that isn't code or data")]
+    #[error("the relocation's symbol isn't in the symbol table, is a source file or a label, or is in a section that isn't code or data")]
     RelocationSymbol,
     /// Reported at the header of the first section up to which they are longer.
     #[error("the sections that are kept are together longer than the file")]

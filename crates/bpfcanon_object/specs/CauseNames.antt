@@ -80,7 +80,7 @@ elf_cause_sentence elf.SymbolPlace = codes "the symbol extends past the end of i
 elf_cause_sentence elf.RelocationTableSize = codes "the size of the table of relocations isn't a multiple of 16"
 elf_cause_sentence elf.RelocationEntrySize = codes "sh_entsize of the table of relocations isn't 16"
 elf_cause_sentence elf.RelocationSymbols = codes "sh_link of the table of relocations isn't the symbol table"
-elf_cause_sentence elf.RelocationSymbol = codes "the relocation names no symbol, a source file, a label, or a symbol in a section that isn't code or data"
+elf_cause_sentence elf.RelocationSymbol = codes "the relocation's symbol isn't in the symbol table, is a source file or a label, or is in a section that isn't code or data"
 elf_cause_sentence elf.SectionsTooLarge = codes "the sections that are kept are together longer than the file"
 elf_cause_sentence elf.SymbolDropped = codes "the symbol is dropped, but has a visibility, a value or a name that a loader may read"
 

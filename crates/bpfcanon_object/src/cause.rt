@@ -93,7 +93,7 @@ fn elf_cause_sentence(cause: ElfCause) -> &'static str
         ElfCause::RelocationEntrySize => "sh_entsize of the table of relocations isn't 16",
         ElfCause::RelocationSymbols => "sh_link of the table of relocations isn't the symbol table",
         ElfCause::RelocationSymbol =>
-            "the relocation names no symbol, a source file, a label, or a symbol in a section that isn't code or data",
+            "the relocation's symbol isn't in the symbol table, is a source file or a label, or is in a section that isn't code or data",
         ElfCause::SectionsTooLarge =>
             "the sections that are kept are together longer than the file",
         ElfCause::SymbolDropped =>
