@@ -710,19 +710,14 @@ bpfcanon_answer bpfcanon_btf_encode(uint32_t to, const bpfcanon_btf_type *types,
                                     uint8_t *out, size_t capacity);
 
 /*
- * Writes the canonical file of a BPF object file (docs/OBJECTS.md): an object file that loaders
- * read like the original, except for source lines, and whose bytes depend only on the code, data,
- * relocations, symbols, types, functions and CO-RE relocations. Sets `written`. It may be longer
- * than the original, but not than BPFCANON_OBJECT_MAX.
+ * Writes the canonical file of a BPF object file: an object file that loaders read like the
+ * original, except for source lines. docs/OBJECTS.md defines it, and names the loaders that were
+ * compared. Sets `written`. It may be longer than the original, but not than BPFCANON_OBJECT_MAX.
  *
  * These four calls hold no file, no path and no global state. So a loader can pass the buffer that
  * it then loads, for example by bpf_object__open_mem of libbpf, and no one can exchange a file
  * between the check and the load. Offsets of faults count from the first byte of the object file,
  * also those of .BTF in it.
- *
- * Canonical files were compared with what libbpf 1.1, cilium/ebpf 0.9, the kernel, LLVM, binutils,
- * bpftool and pyelftools say of the originals (tests/judges in the repository). Of other loaders
- * nothing is known.
  *
  * Statuses: DONE, FAULT, OUT_OF_MEMORY, ROOM.
  */

@@ -1,11 +1,9 @@
 """Canonical BPF object files, and keys of object files.
 
-A canonical file is an object file that loaders read like the original, except for source lines, and
-whose bytes depend only on what the original holds: code, data, relocations, symbols, types,
-functions and CO-RE relocations. Two accepted files hold the same parts if and only if their
-canonical files are equal. docs/OBJECTS.md defines the file, the causes for which an object file is
-refused, and what is proved. What was compared is how libbpf 1.1, cilium/ebpf 0.9 and the kernel
-read both files: of other loaders nothing is known.
+A canonical file is an object file that loaders read like the original, except for source lines. Two
+accepted files hold the same parts if and only if their canonical files are equal. docs/OBJECTS.md
+defines the file and the causes for which an object file is refused, and says what is proved and
+which loaders were compared.
 
 No call reads a path. A program passes the bytes that it then loads, so that nobody can exchange a
 file between the check and the load.
