@@ -26,8 +26,8 @@ each_row = pytest.mark.parametrize("row", ROWS, ids=[it.file for it in ROWS])
 
 
 def causes_of_page() -> set[str]:
-    """The causes of the table of refused files. Some occur in more than one of its rows."""
-    part = (TOP / "docs/OBJECTS.md").read_text().partition("\n## Refused files\n")[2].partition("\n#")[0]
+    """The causes of the table of rules. Some occur in more than one of its rows."""
+    part = (TOP / "docs/OBJECTS.md").read_text().partition("\n## Accepted files\n")[2].partition("\n#")[0]
     rows = re.findall(r"^\| ((?:\w+, )*\w+) \|", part, re.MULTILINE)
     return {cause for row in rows for cause in row.split(", ")}
 

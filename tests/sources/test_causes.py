@@ -32,7 +32,7 @@ def test_objects():
     causes = table()["object"]
     declared = in_errors(source("bpf_elf/src/fault.rt"), "ElfCause") + in_errors(source("bpf_object/src/fault.rt"), "ObjectCause")
     assert sorted((sentence, name) for _, name, sentence in causes) == sorted(declared)
-    page = (TOP / "docs" / "OBJECTS.md").read_text().partition("## Refused files")[2].partition("\n### ")[0]
+    page = (TOP / "docs" / "OBJECTS.md").read_text().partition("## Accepted files")[2].partition("\n### ")[0]
     assert {name for _, name, _ in causes} <= set(re.findall(r"\w+", page))
 
 
