@@ -21,9 +21,9 @@ COMMANDS = {
     ],
     '`-ffile-prefix-map="$PWD"=/src`, a path that doesn\'t exist': [f"{HIDDEN}; {TYPES}"],
     "no `-g`": [f"{CLANG} -c pass.c -o out"],
-    "`clang -E -P`, and compile what it prints": [
-        f"clang -E -P pass.c | {CLANG} -g -x c -c -o out -",
-        f"clang -E -P pass.c > pass.i; {CLANG} -g -c pass.i -o out",
+    "`clang -E -P`, without empty lines, and compile what it prints": [
+        f"clang -E -P pass.c | sed '/^$/d' | {CLANG} -g -x c -c -o out -",
+        f"clang -E -P pass.c | sed '/^$/d' > pass.i; {CLANG} -g -c pass.i -o out",
     ],
     "`llvm-strip -g`, `bpftool gen object`": [
         f"{CLANG} -g -c pass.c -o object.o; llvm-strip -g object.o; {TYPES}",

@@ -78,7 +78,10 @@ ROWS = {
         refused("NotZero", 32, record(1, info, 1)) for info in (0x0700_0000, 0x8700_0000)
     ],
     "a pointer to a function, written by gcc 12": [refused("NameMissing", 24, record(0, 0x0C00_0000, 2, *FUNC_PROTO))],
-    "BTF that clang 14 writes with `-gline-tables-only`, `-g1` or `-gmlt`": [refused("TargetKind", 32, record(1, 0x0C00_0000, 0))],
+    "BTF of an object with line tables only: clang's `-g1`, `-gmlt`, `-gline-tables-only`, Rust's `debuginfo=1`": [
+        refused("TargetKind", 32, record(1, 0x0C00_0000, 0)),
+        refused("Reference", 32, record(1, 0x0C00_0000, 32554)),
+    ],
 }
 OF_INSNS = set(insn_reference.offsets()[0])
 KNOWN = {*btf_reference.NUMBERS, *OF_INSNS}
