@@ -27,7 +27,7 @@ def pytest_addoption(parser):
 
 
 def compares(function):
-    """Whether a test, or a function of its module that it calls, has an assertion: without one it would pass without a word."""
+    """Whether a test, or a function of its module that it calls, has an assertion. A test without one can't fail."""
     nodes = [*ast.walk(ast.parse(textwrap.dedent(inspect.getsource(function))))]
     called = [function.__globals__.get(it.id) for it in nodes if isinstance(it, ast.Name) and it.id != function.__name__]
     own = [it for it in called if inspect.isfunction(it) and it.__module__ == function.__module__]

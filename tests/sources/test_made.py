@@ -1,4 +1,4 @@
-"""What the tools/ make of other files is as they would make it."""
+"""What tools/ writes of other files is up to date."""
 
 import subprocess
 

@@ -1,4 +1,4 @@
--- BTF that isn't canonical, from records. Any records have it: what a kind has is copied from a record, whether or not it says a type.
+-- BTF that isn't canonical, from records. Each record encodes to some bytes: the fields that its kind has are copied, and nothing is checked.
 use Rattle.std.specs.Prelude.{◌≡◌, ◌==◌, ◌<◌, ◌≤◌, ◌+◌, ◌-◌, ◌*◌, ◌/◌, ◌%◌, ◌^◌, ◌++◌, ℕ, ℤ, pos, negsuc, Bool, IsTrue, not, List, [], ◌∷◌, if◌then◌else◌, length, take, drop, slice_index, map}
 use Rattle.std.specs.List.{All, flat_map, list_any, sum_by}
 use Rattle.bpf_words.specs.declared.Order.TheVariants.{Little}

@@ -113,7 +113,7 @@ fn canonical_of(
     }
 }
 
-/// Likewise, from their BTF by this plan.
+/// The same, from the BTF that `plain_btf` makes of these records.
 fn canonical_of_plain(
     alloc: Global,
     to: Order,

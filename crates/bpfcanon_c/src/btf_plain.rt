@@ -1,8 +1,8 @@
 //! BTF that isn't canonical yet, from the records of types.
 //!
-//! Any records have it: what a kind has is copied from the fields of a record, whether or not it is
-//! valid. The string section is a part of the bytes that hold the names. So each name keeps its
-//! distance from the others, and no name is looked up or copied alone.
+//! Each record encodes to some bytes: the fields that its kind has are copied, and nothing is
+//! checked. The string section is a part of the caller's strings. So each name keeps its distance
+//! from the others, and no name is looked up or copied alone.
 
 ghost use Rattle.std.specs.Prelude.{◌≡◌, ◌<◌, ◌^◌, ◌++◌, OnOk, IfOk, MatchResult};
 ghost use Rattle.std.specs.List.{list_any};
@@ -26,8 +26,8 @@ use std::alloc::{AllocError, Global};
 /// The length of a header in bytes.
 const HEADER: usize = 24;
 
-/// The part of the bytes of all names that the names of some records use, with the NUL after each.
-/// Both are 0 if all names are empty.
+/// The smallest range of the caller's strings with all names of some records and the NUL after
+/// each. Both ends are 0 if all names are empty.
 #[derive(Clone, Copy)]
 pub struct NamesPart {
     start: usize,
