@@ -8,8 +8,7 @@ use Rattle.bpf_elf.specs.declared.kinds.Kind.{Kind}
 use Rattle.bpf_elf.specs.declared.kinds.Kind.TheVariants.{Data, Relocations, Symbols, Types, Extension, Dropped}
 use Rattle.bpf_elf.specs.Kinds.{SHT_SYMTAB, SHT_STRTAB, kind_of, is_kind}
 use Rattle.btf_raw.specs.Names.{IsWithoutNul}
-use Rattle.bpf_object.specs.File.{WrittenSection, file_of}
-use Rattle.bpf_object.specs.WrittenSections.{no_section}
+use Rattle.bpf_object.specs.File.{WrittenSection, file_of, no_section}
 use Rattle.bpf_object.specs.Objects.{ObjectTypes, Object}
 use Rattle.bpf_object.specs.Canonical.{offset_of, has_extension, types_names, file_strings, symbol_bytes, first_global, btf_bytes, extension_bytes, types_strings, written_section, own_section, types_sections, symtab_number, last_sections, written_sections, canonical}
 use Rattle.btf_types.proofs.Members.{Has}

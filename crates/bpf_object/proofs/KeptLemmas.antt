@@ -7,7 +7,7 @@ use Rattle.std.proofs.lemmas.List.{get_or_append_left, Concat.flat_map-append}
 use Rattle.bpf_object.specs.{Kept.listed, Kept.number_of, Kept.numbers, Kept.kept_relocation, Kept.kept_symbol, Kept.symbol_number, Kept.symbol_section, Kept.is_kept_section, Objects.KeptRelocation}
 use Rattle.bpf_elf.specs.Relocations.{r_offset, r_symbol, r_type}
 use Rattle.bpf_words.specs.declared.Order.{Order}
-use Rattle.bpf_object.specs.{Canonical.row_bytes, Canonical.symbol_bytes, Tables.rows_bytes, Tables.table_of, Tables.tables_bytes}
+use Rattle.bpf_object.specs.{Canonical.row_bytes, Canonical.symbol_bytes, Tables.rows_bytes}
 use Rattle.bpf_elf.specs.{Numbers.order_of, Symbols.is_kept_symbol, Symbols.is_local, Symbols.symbol_name, Symbols.st_other, Symbols.st_shndx, Symbols.st_value, Symbols.st_size, Symbols.is_special, Symbols.st_info}
 use Rattle.bpf_object.specs.SymbolRows.{globals_from, symbol_row}
 use Rattle.std.specs.Prelude.{slice_index}
@@ -68,9 +68,6 @@ numbers_long test numbers_now n k is lt = rw (is, length-all (number_of test) n)
 
 pub rows_next : (b : List ℕ) (i k : ℕ) → rows_bytes b i (k + 1) ≡ rows_bytes b i k ++ row_bytes (order_of b) (kept_relocation b i k)
 rows_next b i k = bytes_next (row_bytes (order_of b)) all (kept_relocation b i) k
-
-pub tables_next : (b : List ℕ) (i : ℕ) → tables_bytes b (i + 1) ≡ tables_bytes b i ++ table_of b i
-tables_next b i = rw add-one refl
 
 -- what a loop that appends keeps
 pub appended : (start out new x y z : List ℕ) → out ≡ start ++ x → new ≡ out ++ y → z ≡ x ++ y → new ≡ start ++ z

@@ -26,12 +26,11 @@ pub mod WrittenStrings
 pub mod ReadBackTests
 pub mod ReadBackSymbols
 pub mod ReadBackRelocations
-pub mod FileStringLemmas
+pub mod NotedLemmas
 pub mod RecordLemmas
 pub mod ReservedLemmas
 pub mod TypesLemmas
 pub mod FaultLemmas
-pub mod FileBridge
 pub mod TableLemmas
 pub mod CanonValid
 pub mod CanonNames
@@ -46,9 +45,6 @@ pub mod CanonRules
 pub mod CanonAccepted
 pub mod CanonAcceptedSymbols
 pub mod CanonFew
-pub mod NamedLemmas
-pub mod PartLemmas
-pub mod StringsFit
 pub mod ObjectLemmas
 pub mod CanonBtf
 pub mod CanonBtfRules
@@ -63,4 +59,10 @@ pub mod DenotesOne
 pub mod CanonDenotes
 pub mod AcceptedLemmas
 pub mod LineLemmas
+pub mod NamesLemmas
+pub mod FieldLemmas
+pub mod FileWriterLemmas
+pub mod ObjectWriterLemmas
+pub mod FileOfLemmas
+pub mod WrittenObject
 pub mod RecordWindows

@@ -10,9 +10,10 @@ use Rattle.btf_types.specs.{Sections.SectionWords, Sections.records_in}
 use Rattle.btf_types.proofs.{CheckLemmas.FaultLaws.no_fault_is_accepted}
 use Rattle.bpf_object.specs.declared.fault.{ObjectError.ObjectError, ObjectFault.ObjectFault}
 use Rattle.bpf_object.specs.declared.fault.ObjectError.TheVariants as errors
-use Rattle.bpf_object.specs.Canonical.{btf_bytes, extension_bytes, offset_of, types_strings, canonical}
+use Rattle.bpf_object.specs.Canonical.{btf_bytes, canonical}
 use Rattle.bpf_object.specs.Denotes.{Denotes, HoldsTypes, TypesAre, types_at, types_of, extension_at, rules_of_extension, object_types, object_of, extension_of, btf_fits, types_fit, result_limit, is_small, IsCanonicalFile}
-use Rattle.bpf_object.specs.FileWith.{btf_content, extension_content, file_with, fits_with}
+use Rattle.bpf_object.specs.ObjectWriter.{AreContents, fits}
+use Rattle.bpf_object.specs.Written.{btf_content, extension_content}
 use Rattle.bpf_object.specs.{Extension.Section, Faults.IsFirstFault, Faults.ObjectRule, Lines.extension_rules}
 use Rattle.bpf_object.specs.ObjectFaults.{IsFault, of_elf, without_types, of_types, of_extension, of_result, IsWithoutTypesFault, IsFaultOfTypes, IsFaultOfExtension, IsFaultOfResult, IsTooLarge, Fails, FailsToFit}
 use Rattle.bpf_object.specs.Objects.{ObjectTypes, Object}
@@ -21,8 +22,7 @@ use Rattle.bpf_object.specs.{NotedStrings.IsChecked, Sources.section, WrittenTyp
 use Rattle.bpf_object.specs.Types.{TypesSection}
 use Rattle.bpf_object.specs.TypesFaults.{KeepsTypes, IsTypesFault, FailsTypes, of_size, of_btf, of_rules}
 use Rattle.bpf_object.proofs.DenotesOne.{words_one, types_one, denotes_one}
-use Rattle.bpf_object.proofs.FileBridge.{file_is, small_is}
-use Rattle.bpf_object.proofs.PartLemmas.{types_too_long, extension_too_long}
+use Rattle.bpf_object.proofs.WrittenObject.{types_too_long, extension_too_long}
 use Rattle.bpf_object.proofs.ReadBackTests.{over_test}
 
 -- ---- no fault
@@ -125,25 +125,21 @@ no_fit false y over = refl
 least_passed : (a b n : ℕ) → min a b < n → n ≤ a → b < n
 least_passed a b n lt le = omega (arith, lt, le)
 
-pub file_made : (b : List ℕ) (t : Option ObjectTypes) (out : List ℕ) → IsElf b → TypesAre b t → types_fit (object_of b t) ≡ true
-    → fits_with b (btf_content (order_of b) t) (extension_content (order_of b) t) ≡ true
-    → out ≡ file_with b (btf_content (order_of b) t) (extension_content (order_of b) t) → IsCanonicalFile b out
-file_made b t out elf types small fits is =
-    let both : (types_fit (object_of b t) && fits_with b (btf_content (order_of b) t) (extension_content (order_of b) t)) ≡ true = rw (small, fits) refl in
-    (object_of b t, (record { elf = elf; types = types; whole = refl; small = small_is b t ∙ both }, is ∙ sym (file_is b t)))
+file_made : (b : List ℕ) (t : Option ObjectTypes) (out : List ℕ) → IsElf b → TypesAre b t → types_fit (object_of b t) ≡ true → fits b t ≡ true
+    → out ≡ canonical (object_of b t) → IsCanonicalFile b out
+file_made b t out elf types small fit is =
+    let both : (types_fit (object_of b t) && fits b t) ≡ true = rw (small, fit) refl in
+    (object_of b t, (record { elf = elf; types = types; whole = refl; small = both }, is))
 
-large_file : (b : List ℕ) (t : Option ObjectTypes) (f : ObjectFault) → IsElf b → TypesAre b t
-    → fits_with b (btf_content (order_of b) t) (extension_content (order_of b) t) ≡ false → IsTooLarge f → IsFault b f
-large_file b t f elf types over is =
-    let large = small_is b t ∙ no_fit (types_fit (object_of b t)) _ over in
-    of_result (record { held = t; elf = elf; types = types; large = large; result = is })
+large_file : (b : List ℕ) (t : Option ObjectTypes) (f : ObjectFault) → IsElf b → TypesAre b t → fits b t ≡ false → IsTooLarge f → IsFault b f
+large_file b t f elf types over is = of_result (record { held = t; elf = elf; types = types; large = no_fit (types_fit (object_of b t)) _ over; result = is })
 
-abbrev pub FitsFile : {T : Type 0} → (T → List ℕ) → List ℕ → Option (List ℕ) → Option (List ℕ) → Result T ObjectError → Type 0
-FitsFile items b types extension r =
-    MatchResult r (λ out. (fits_with b types extension ≡ true) × (items out ≡ file_with b types extension)) (FailsToFit (fits_with b types extension))
+-- the canonical file with these types, or that it is too large
+abbrev pub FitsFile : {T : Type 0} → (T → List ℕ) → List ℕ → Option ObjectTypes → Result T ObjectError → Type 0
+FitsFile items b t r = MatchResult r (λ out. (fits b t ≡ true) × (items out ≡ canonical (object_of b t))) (FailsToFit (fits b t))
 
 pub with_contents : {T : Type 0} (items : T → List ℕ) (b : List ℕ) (t : Option ObjectTypes) (r : Result T ObjectError) → IsElf b → TypesAre b t → types_fit (object_of b t) ≡ true
-    → FitsFile items b (btf_content (order_of b) t) (extension_content (order_of b) t) r → MatchResult r (λ out. IsCanonicalFile b (items out)) (Fails b)
+    → FitsFile items b t r → MatchResult r (λ out. IsCanonicalFile b (items out)) (Fails b)
 with_contents items b t (Ok out) elf types small made = file_made b t (items out) elf types small made.0 made.1
 with_contents items b t (Err (errors.Fault f)) elf types small made = large_file b t f elf types made.0 made.1
 with_contents items b t (Err errors.Memory) elf types small made = made
@@ -168,22 +164,15 @@ held b s k = record { sections = s; there = k.there; types = k.types; extension 
 long_types : (b : List ℕ) (t : ObjectTypes) → AreTooLong (result_limit (length b)) (order_of b) t → is_small (length b) (object_of b (Some t)) ≡ false
 long_types b t (inl lt) =
     let types = btf_bytes (order_of b) t in
-    let extension = extension_content (order_of b) (Some t) in
-    small_is b (Some t)
-    ∙ elim (cases_lt 15728640 (length types)) [
-      | inl above ↦ ap (λ (x : Bool). x && fits_with b (Some types) extension) (over_test (length types) 15728640 above)
+    elim (cases_lt 15728640 (length types)) [
+      | inl above ↦ ap (λ (x : Bool). x && fits b (Some t)) (over_test (length types) 15728640 above)
       | inr below ↦
           let long : result_limit (length b) < length types = least_passed 15728640 (result_limit (length b)) (length types) lt below in
-          no_fit (btf_fits (order_of b) t) (fits_with b (Some types) extension)
-          (over_test (length (file_with b (Some types) extension)) (result_limit (length b)) (types_too_long b types extension (result_limit (length b)) long))
+          no_fit (btf_fits (order_of b) t) (fits b (Some t)) (over_test (length (canonical (object_of b (Some t)))) (result_limit (length b)) (types_too_long b t (result_limit (length b)) long))
     ]
 long_types b t (inr over) =
-    let types = btf_bytes (order_of b) t in
-    let extension = extension_bytes (order_of b) (offset_of (types_strings t)) t in
-    let there : extension_content (order_of b) (Some t) ≡ Some extension = rw over.0 refl in
-    small_is b (Some t) ∙ ap (λ (e : Option (List ℕ)). btf_fits (order_of b) t && fits_with b (Some types) e) there
-    ∙ no_fit (btf_fits (order_of b) t) (fits_with b (Some types) (Some extension))
-    (over_test (length (file_with b (Some types) (Some extension))) (result_limit (length b)) (extension_too_long b types extension (result_limit (length b)) over.1))
+    no_fit (btf_fits (order_of b) t) (fits b (Some t))
+    (over_test (length (canonical (object_of b (Some t)))) (result_limit (length b)) (extension_too_long b t (result_limit (length b)) over.0 over.1))
 
 pub typed_large : (b : List ℕ) (s : SectionWords) (x : Section) (f : ObjectFault) (limit : ℕ) → Keeps b s → x ≡ extension_of b s.strings → limit ≡ result_limit (length b)
     → AreTooLong limit x.order (object_types s x) → IsTooLarge f → IsFault b f
@@ -200,10 +189,9 @@ ContentsAre s x types extension =
     × ((types ≡ btf_content x.order (Some (object_types s x))) × (extension ≡ extension_content x.order (Some (object_types s x))))
 
 pub typed_file : {T : Type 0} (items : T → List ℕ) (b : List ℕ) (s : SectionWords) (x : Section) (types extension : Option (List ℕ)) (r : Result T ObjectError) → Keeps b s
-    → x ≡ extension_of b s.strings → ContentsAre s x types extension → FitsFile items b types extension r → MatchResult r (λ out. IsCanonicalFile b (items out)) (Fails b)
+    → x ≡ extension_of b s.strings → ContentsAre s x types extension → ((t : Option ObjectTypes) → AreContents (order_of b) t types extension → FitsFile items b t r)
+    → MatchResult r (λ out. IsCanonicalFile b (items out)) (Fails b)
 typed_file items b s x types extension r k own contents made =
     let t = object_types s (extension_of b s.strings) in
     let at = subst (λ (x : Section). ContentsAre s x types extension) own contents in
-    let with_types = subst (λ (types : Option (List ℕ)). FitsFile items b types extension r) at.1.0 made in
-    let both = subst (λ (extension : Option (List ℕ)). FitsFile items b (btf_content (order_of b) (Some t)) extension r) at.1.1 with_types in
-    with_contents items b (Some t) r k.elf (held b s k) at.0 both
+    with_contents items b (Some t) r k.elf (held b s k) at.0 (made (Some t) (record { types_are = at.1.0; extension_is = at.1.1 }))

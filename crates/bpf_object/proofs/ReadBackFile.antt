@@ -6,8 +6,7 @@ use Rattle.bpf_words.specs.Words.{word16_at, word32_at}
 use Rattle.bpf_elf.specs.Kinds.{SHT_NOBITS}
 use Rattle.bpf_elf.specs.Numbers as number
 use Rattle.bpf_elf.specs.Numbers.{order_of, word64_at}
-use Rattle.bpf_object.specs.WrittenSections.{no_section}
-use Rattle.bpf_object.specs.File.{WrittenSection, data_byte, ident, file_type, file_table, content_offset, section_header, file_of}
+use Rattle.bpf_object.specs.File.{WrittenSection, data_byte, ident, file_type, file_table, content_offset, section_header, file_of, no_section}
 use Rattle.bpf_object.proofs.FileLemmas.{offset_grows}
 use Rattle.bpf_object.proofs.ReadBackWords.{HasBytes, has_at, has_same, has_of, has_first, has_rest, read_byte}
 use Rattle.bpf_object.proofs.ReadBackNumbers.{Number, half, word, long, encode, FitWidths, Read, read_all}

@@ -7,8 +7,7 @@ use Rattle.btf_types.specs.{Names.kept, Names.names, Names.table_of, Names.offse
 use Rattle.bpf_elf.specs.Kinds.{SHT_PROGBITS, SHT_SYMTAB, SHT_STRTAB, SHT_REL}
 use Rattle.bpf_elf.specs.Symbols.{is_local}
 use Rattle.bpf_canon.specs.btf.CanonicalBtf.{record_words}
-use Rattle.bpf_object.specs.File.{WrittenSection, word64, file_of}
-use Rattle.bpf_object.specs.WrittenSections.{no_section}
+use Rattle.bpf_object.specs.File.{WrittenSection, no_section, word64, file_of}
 use Rattle.bpf_object.specs.Objects.{KeptRelocation, KeptSection, KeptSymbol, Function, CoreRelocation, Group, ObjectTypes, Object}
 
 -- a string table without shared bytes: each string once, in the order of first use

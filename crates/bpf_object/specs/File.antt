@@ -16,6 +16,10 @@ pub record WrittenSection : Type 0 where
   pub entry_size : ℕ
   pub content : List ℕ
 
+-- what stands past the end of a list of sections
+abbrev pub no_section : WrittenSection
+no_section = record { name_offset = 0; type = 0; flags = 0; address = 0; size = 0; link = 0; info = 0; alignment = 0; entry_size = 0; content = [] }
+
 -- the 8 bytes of a number below 2^64 in a byte order
 abbrev pub word64 : Order → ℕ → List ℕ
 word64 Little n = to_le_bytes w64 n

@@ -1,5 +1,5 @@
--- The bytes of the tables of relocations, one after the other.
-use Rattle.std.specs.Prelude.{ℕ, zero, suc, true, List, [], ◌++◌, if◌then◌else◌}
+-- The bytes of the tables of relocations.
+use Rattle.std.specs.Prelude.{ℕ, true, List, if◌then◌else◌}
 use Rattle.std.specs.List.{flat_map}
 use Rattle.bpf_elf.specs.Numbers.{order_of}
 use Rattle.bpf_elf.specs.Relocations.{relocation_count}
@@ -14,15 +14,6 @@ rows_bytes b i n = flat_map (row_bytes (order_of b)) (listed (λ k. true) (kept_
 -- all of them
 abbrev pub table_bytes : List ℕ → ℕ → List ℕ
 table_bytes b i = rows_bytes b i (relocation_count b i)
-
--- those of a section, if it is a table
-abbrev pub table_of : List ℕ → ℕ → List ℕ
-table_of b i = if is_table b i then table_bytes b i else []
-
--- those of the tables among the first n sections
-abbrev pub tables_bytes : List ℕ → ℕ → List ℕ
-tables_bytes b zero = []
-tables_bytes b (suc n) = tables_bytes b n ++ table_of b n
 
 -- the content of a section that is kept
 abbrev pub kept_content : List ℕ → ℕ → List ℕ

@@ -10,11 +10,10 @@ use Rattle.bpf_object.specs.declared.extension.Part.TheVariants.{Functions, Relo
 use Rattle.bpf_object.specs.Canonical.{types_bytes, types_strings, offset_of, btf_of, btf_bytes, extension_bytes, has_extension}
 use Rattle.bpf_object.specs.Denotes.{btf_fits}
 use Rattle.bpf_object.specs.Extension.{Section, groups}
-use Rattle.bpf_object.specs.FileWith.{extension_content}
 use Rattle.bpf_object.specs.Objects.{ObjectTypes}
 use Rattle.bpf_object.specs.NotedStrings.{AreInside, IsChecked, text_offset}
 use Rattle.bpf_object.specs.Sources.{section, HasGroup}
-use Rattle.bpf_object.specs.Written.{items_of}
+use Rattle.bpf_object.specs.Written.{extension_content, items_of}
 use Rattle.bpf_object.specs.WrittenGroups.{groups_offsets}
 
 -- a file may have no .BTF.ext, which is then empty

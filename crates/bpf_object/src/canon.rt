@@ -16,8 +16,7 @@ ghost use Rattle.bpf_object.specs.Canonical.{canonical};
 ghost use Rattle.bpf_object.specs.Denotes as spec;
 ghost use Rattle.bpf_object.specs.Denotes.{Denotes, IsCanonicalFile};
 ghost use Rattle.bpf_object.specs.Faults.{Checks, IsFirstFault};
-ghost use Rattle.bpf_object.specs.FileWith.{file_with, fits_with};
-ghost use Rattle.bpf_object.specs.ObjectFaults.{Fails, FailsToFit};
+ghost use Rattle.bpf_object.specs.ObjectFaults.{Fails};
 ghost use Rattle.bpf_object.specs.Objects.{Object};
 ghost use Rattle.bpf_object.specs.Sources.{section, IsSource};
 ghost use Rattle.bpf_object.specs.TypesFaults.{KeepsTypes, FailsTypes};
@@ -26,6 +25,7 @@ ghost use Rattle.bpf_object.specs.Written.{content_of, items_of};
 
 use crate::extension::check_source;
 use crate::fault::{ObjectCause, ObjectError, ObjectFault, require};
+use crate::names::TOO_LARGE;
 use crate::object_writer::{result_limit, write_object};
 use crate::source::Source;
 use crate::types::check_types;
@@ -33,12 +33,6 @@ use crate::types_writer::write_types;
 use bpf_elf::{Elf, Kind};
 use btf_types::{CheckedFile, FileSections};
 use std::alloc::Allocator;
-
-/// The fault of a file whose canonical file, or .BTF of it, is too large.
-const TOO_LARGE: ObjectFault = ObjectFault {
-    pos: 0,
-    cause: ObjectCause::ResultTooLarge,
-};
 
 /// Checks that there is no .BTF.ext.
 fn check_no_extension(elf: &Elf<'_>) -> Result<(), ObjectFault>
@@ -97,24 +91,6 @@ fn check_own_types<'a, A: Allocator>(
     )
 }
 
-/// The file with these bytes of .BTF and .BTF.ext.
-fn fitting_file<A: Allocator + Copy>(
-    alloc: A,
-    elf: &Elf<'_>,
-    types: Option<&[u8]>,
-    extension: Option<&[u8]>,
-) -> Result<Vec<u8, A>, ObjectError>
-    ensures { let types = content_of types.entry in let extension = content_of extension.entry in
-        MatchResult result (λ out. (fits_with elf.now types extension ≡ true)
-        × (out.items ≡ file_with elf.now types extension))
-        (FailsToFit (fits_with elf.now types extension)) }
-{
-    match write_object(alloc, elf, types, extension)? {
-        Some(out) => Ok(out),
-        None => Err(ObjectError::Fault(TOO_LARGE)),
-    }
-}
-
 /// The canonical file of a file without .BTF.
 fn canon_bare<A: Allocator + Copy>(alloc: A, elf: &Elf<'_>) -> Result<Vec<u8, A>, ObjectError>
     requires elf { IsElf elf.now }
@@ -122,7 +98,7 @@ fn canon_bare<A: Allocator + Copy>(alloc: A, elf: &Elf<'_>) -> Result<Vec<u8, A>
     ensures { MatchResult result (λ out. IsCanonicalFile elf.now out.items) (Fails elf.now) }
 {
     check_no_extension(elf)?;
-    fitting_file(alloc, elf, None, None)
+    write_object(alloc, elf, None, None)
 }
 
 /// The bytes of a section, if there is one.
@@ -155,7 +131,7 @@ fn write_typed<A: Allocator + Copy>(
         return Err(ObjectError::Fault(TOO_LARGE));
     };
     let extension = content(&written.extension);
-    fitting_file(alloc, elf, Some(written.types.as_slice()), extension)
+    write_object(alloc, elf, Some(written.types.as_slice()), extension)
 }
 
 /// The canonical file of a file with .BTF.

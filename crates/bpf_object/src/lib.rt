@@ -5,7 +5,7 @@
 //! [`object_key`] is its SHA-256. [`AcceptedObject`] is a file that has a canonical one, as a value:
 //! it gives the sections and symbols, the functions, and the source lines of instructions, which no
 //! canonical file has. [`laws`] says that canonical files are valid, and tell objects apart.
-//! [`check_extension`] and [`write_file`] are parts of the calls.
+//! [`check_extension`] is a part of the calls.
 //!
 //! Definitions first: `specs/Objects.antt` says what an object is, `Kept` and `Denotes` which one a
 //! file denotes, `Canonical` its canonical file, `ObjectFaults` the fault of a file that has none, and
@@ -17,9 +17,9 @@
 //! - `section_groups` finds the group of records of a section, `source_lines` in it the line of an
 //!   instruction, and `section_records` iterates over its records.
 //! - `extension_file` writes .BTF.ext anew, by `groups` and `extension_writer`.
-//! - `object_writer` writes the file: its strings are in `file_strings` and `new_offsets`, its symbols
-//!   and tables of relocations in `symbol_rows` and `relocation_rows`, with the numbers of
-//!   `numbering`. `file` puts the sections together.
+//! - `object_writer` writes the file in one pass: the sections by `section_writer`, with the rows of
+//!   `relocation_rows`, then .BTF and .BTF.ext, then the symbols by `symbol_rows`. `names` is the
+//!   string table, `numbering` has the new numbers, and `file_writer` puts the sections together.
 
 #![tactic(auto)]
 
@@ -32,14 +32,14 @@ mod extension_file;
 mod extension_strings;
 mod extension_writer;
 mod fault;
-mod file;
-mod file_strings;
+mod fields;
+mod file_writer;
 mod group_checks;
 mod groups;
 mod key;
 pub mod laws;
 mod line_checks;
-mod new_offsets;
+mod names;
 mod numbering;
 mod object_writer;
 mod relocation_rows;
@@ -58,7 +58,6 @@ pub use accepted::AcceptedObject;
 pub use canon::canon_object;
 pub use extension::{Part, check_extension};
 pub use fault::{ObjectCause, ObjectError, ObjectFault};
-pub use file::{WrittenSection, write_file};
 pub use key::object_key;
 pub use same::{SameError, same_objects};
 pub use section_records::{FunctionRecord, Functions, LineRecord, Lines};

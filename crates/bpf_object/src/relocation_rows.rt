@@ -9,8 +9,7 @@ ghost use Rattle.bpf_object.specs.Canonical.{row_bytes};
 ghost use Rattle.bpf_object.specs.Kept.{is_table, kept_relocation, numbers as spec_numbers};
 ghost use Rattle.bpf_object.specs.Tables as spec;
 
-use crate::file::push64;
-use crate::numbering::is_table as is_kept_table;
+use crate::fields::push64;
 use bpf_elf::{Elf, Relocation};
 use bpf_words::Order;
 use std::alloc::{AllocError, Allocator};
@@ -50,7 +49,7 @@ fn push_relocation<A: Allocator>(
 }
 
 /// Appends the rows of a table.
-fn push_table<A: Allocator>(
+pub(crate) fn push_table<A: Allocator>(
     out: &mut Vec<u8, A>,
     elf: &Elf<'_>,
     numbers: &[u32],
@@ -64,40 +63,6 @@ fn push_table<A: Allocator>(
 {
     for k in 0..elf.relocation_count(i) {
         push_relocation(out, elf, numbers, i, k)?;
-    }
-    Ok(())
-}
-
-/// Appends the rows of a section, if it is a table that is kept.
-fn push_if_table<A: Allocator>(
-    out: &mut Vec<u8, A>,
-    elf: &Elf<'_>,
-    numbers: &[u32],
-    i: usize,
-) -> Result<(), AllocError>
-    requires there { i < count elf.now }
-    requires numbers { numbers.now ≡ spec_numbers (is_kept_symbol elf.now) (symbol_count elf.now) }
-    ensures { OnOk result (out.new.items ≡ out.old.items ++ spec.table_of elf.now i) }
-{
-    if is_kept_table(elf, i) {
-        push_table(out, elf, numbers, i)
-    } else {
-        Ok(())
-    }
-}
-
-/// Appends the rows of all tables. `numbers` are the new numbers of the symbols.
-pub(crate) fn push_tables<A: Allocator>(
-    out: &mut Vec<u8, A>,
-    elf: &Elf<'_>,
-    numbers: &[u32],
-) -> Result<(), AllocError>
-    requires { numbers.now ≡ spec_numbers (is_kept_symbol elf.now) (symbol_count elf.now) }
-    ensures { OnOk result (out.new.items
-        ≡ out.old.items ++ spec.tables_bytes elf.now (count elf.now)) }
-{
-    for i in 0..elf.section_count() {
-        push_if_table(out, elf, numbers, i)?;
     }
     Ok(())
 }

@@ -1,62 +1,39 @@
-//! The headers and contents of the sections that are kept (System V ABI, "Sections").
+//! The headers and contents of the sections that are kept, written one after the other (System V ABI,
+//! "Sections").
 
-ghost use Rattle.std.specs.Prelude.{◌≡◌, ◌+◌, ◌++◌, ◌<◌, ◌^◌, true, if◌then◌else◌, ◌==◌, map, length, OnOk};
-ghost use Rattle.bpf_elf.specs.Numbers.{count, order_of};
+ghost use Rattle.std.specs.Prelude.{◌≡◌, ℕ, ◌+◌, ◌++◌, ◌<◌, ◌^◌, [], ◌∷◌, List, if◌then◌else◌, ◌==◌, length, MatchResult};
 ghost use Rattle.bpf_elf.specs.Kinds.{SHT_REL as spec_rel};
-ghost use Rattle.bpf_object.specs.Canonical.{written_section as spec_written};
-ghost use Rattle.bpf_object.specs.FileStrings.{HasFileStrings};
-ghost use Rattle.bpf_object.specs.Kept as spec;
-ghost use Rattle.bpf_object.specs.NotedStrings.{text_offset};
-ghost use Rattle.bpf_object.specs.SectionRows as section_rows;
-ghost use Rattle.bpf_object.specs.Tables as tables;
-ghost use Rattle.bpf_object.specs.WrittenSections.{section_value};
+ghost use Rattle.bpf_elf.specs.Numbers.{count, names as names_section, order_of};
+ghost use Rattle.bpf_elf.specs.Sections as sections;
+ghost use Rattle.bpf_elf.specs.Symbols.{is_kept_symbol, symbol_count};
+ghost use Rattle.bpf_object.specs.Canonical.{written_section};
+ghost use Rattle.bpf_object.specs.Denotes.{result_limit};
+ghost use Rattle.bpf_object.specs.File.{WrittenSection};
+ghost use Rattle.bpf_object.specs.FileWriter.{Holds, FailsToHold, section_of};
+ghost use Rattle.bpf_object.specs.Kept.{is_kept_section as spec_is_kept, kept_section, kept_sections, numbers};
+ghost use Rattle.bpf_object.specs.ObjectWriter as spec;
+ghost use Rattle.bpf_object.specs.Tables.{kept_content};
 
-use crate::file::WrittenSection;
-use crate::new_offsets::section_name_offset;
+use crate::fault::ObjectError;
+use crate::file_writer::FileWriter;
+use crate::names::Names;
 use crate::numbering::{counted, is_kept_section, is_table};
+use crate::relocation_rows::push_table;
 use crate::symbol_rows::sections_before;
-use bpf_canon::DistinctOffsets;
-use bpf_elf::Elf;
-use std::alloc::{AllocError, Allocator};
+use bpf_elf::{Elf, SectionHeader};
+use std::alloc::Allocator;
 
 /// sh_type of a table of relocations.
 const SHT_REL: u32 = 9;
 
-/// The length of the rows of a section, if it is a table.
-fn table_len(elf: &Elf<'_>, i: usize) -> usize
-    requires { i < count elf.now }
-    ensures { result ≡ length (tables.table_of elf.now i) }
-{
-    if is_table(elf, i) {
-        16 * elf.relocation_count(i)
-    } else {
-        0
-    }
-}
-
-/// The content of a section that is kept. If it is a table, its rows are at `at` of all rows.
-fn content_of<'a>(elf: &'a Elf<'_>, rows: &'a [u8], i: usize, at: usize) -> &'a [u8]
-    requires there { i < count elf.now }
-    requires rows { rows.now ≡ tables.tables_bytes elf.now (count elf.now) }
-    requires at { at ≡ length (tables.tables_bytes elf.now i) }
-    requires small { length rows.now < 2 ^ 63 }
-    ensures { result.now ≡ tables.kept_content elf.now i }
-{
-    if is_table(elf, i) {
-        &rows[at..at + table_len(elf, i)]
-    } else {
-        elf.content(i)
-    }
-}
-
 /// The new number of the section that a table is for; 0 for code and data.
-fn target(elf: &Elf<'_>, numbers: &[u32], i: usize) -> u32
+fn target(elf: &Elf<'_>, before: &[u32], i: usize) -> u32
     requires there { i < count elf.now }
-    requires numbers { numbers.now ≡ spec.numbers (spec.is_kept_section elf.now) (count elf.now) }
-    ensures { result ≡ (spec.kept_section elf.now i).target }
+    requires numbers { before.now ≡ numbers (spec_is_kept elf.now) (count elf.now) }
+    ensures { result ≡ (kept_section elf.now i).target }
 {
     if is_table(elf, i) {
-        1 + sections_before(elf, numbers, elf.section(i).info as usize)
+        1 + sections_before(elf, before, elf.section(i).info as usize)
     } else {
         0
     }
@@ -69,103 +46,135 @@ fn link_of(section_type: u32, symtab: u32) -> u32
     if section_type == SHT_REL { symtab } else { 0 }
 }
 
-/// A section that is kept. `link` is the number of .symtab.
-fn kept_section<'a, B: Allocator>(
-    names: &DistinctOffsets<'_, B>,
-    elf: &Elf<'_>,
-    numbers: &[u32],
-    i: usize,
-    link: u32,
-    content: &'a [u8],
-) -> WrittenSection<'a>
-    requires there { i < count elf.now }
-    requires kept { spec.is_kept_section elf.now i ≡ true }
-    requires names { HasFileStrings elf.now names.now }
-    requires numbers { numbers.now ≡ spec.numbers (spec.is_kept_section elf.now) (count elf.now) }
-    requires content { content.now ≡ tables.kept_content elf.now i }
-    ensures { section_value result
-        ≡ spec_written (order_of elf.now) (text_offset names.now) link
-        (spec.kept_section elf.now i) }
-{
-    let section = elf.section(i);
-    WrittenSection {
-        name_offset: section_name_offset(names, elf, i),
-        section_type: section.section_type,
-        flags: section.flags,
-        address: section.address,
-        size: section.size,
-        link: link_of(section.section_type, link),
-        info: target(elf, numbers, i),
-        alignment: section.alignment,
-        entry_size: section.entry_size,
-        content,
-    }
-}
-
-/// Appends a section, if it is kept. If it is a table, its rows are at `at` of all rows.
-fn push_if_kept<'a, A: Allocator, B: Allocator>(
-    sections: &mut Vec<WrittenSection<'a>, A>,
-    names: &DistinctOffsets<'_, B>,
-    elf: &'a Elf<'_>,
-    numbers: &[u32],
-    rows: &'a [u8],
-    i: usize,
-    at: usize,
-    link: u32,
-) -> Result<(), AllocError>
-    requires there { i < count elf.now }
-    requires names { HasFileStrings elf.now names.now }
-    requires numbers { numbers.now ≡ spec.numbers (spec.is_kept_section elf.now) (count elf.now) }
-    requires rows { rows.now ≡ tables.tables_bytes elf.now (count elf.now) }
-    requires at { at ≡ length (tables.tables_bytes elf.now i) }
-    requires small { length rows.now < 2 ^ 63 }
-    ensures { OnOk result (map section_value sections.new.items
-        ≡ map section_value sections.old.items
-        ++ section_rows.written_if_kept elf.now (text_offset names.now) link i) }
-{
-    if !is_kept_section(elf, i) {
-        return Ok(());
-    }
-    let content = content_of(elf, rows, i, at);
-    sections.push(kept_section(names, elf, numbers, i, link, content))?;
-    Ok(())
-}
-
-/// Appends the sections that are kept. `numbers` say how many kept sections precede each, `rows` are
-/// the rows of all tables, and `link` is the number of .symtab.
-pub(crate) fn push_kept<'a, A: Allocator, B: Allocator>(
-    sections: &mut Vec<WrittenSection<'a>, A>,
-    names: &DistinctOffsets<'_, B>,
-    elf: &'a Elf<'_>,
-    numbers: &[u32],
-    rows: &'a [u8],
-    link: u32,
-) -> Result<(), AllocError>
-    requires names { HasFileStrings elf.now names.now }
-    requires numbers { numbers.now ≡ spec.numbers (spec.is_kept_section elf.now) (count elf.now) }
-    requires rows { rows.now ≡ tables.tables_bytes elf.now (count elf.now) }
-    requires small { length rows.now < 2 ^ 63 }
-    ensures { OnOk result (map section_value sections.new.items
-        ≡ map section_value sections.old.items
-        ++ section_rows.written_kept elf.now (text_offset names.now) link (count elf.now)) }
-{
-    let mut at = 0;
-    for i in 0..elf.section_count() {
-        push_if_kept(sections, names, elf, numbers, rows, i, at, link)?;
-        at += table_len(elf, i);
-    }
-    Ok(())
-}
-
-/// How many sections are kept. `numbers` say how many precede each.
-pub(crate) fn kept_count(elf: &Elf<'_>, numbers: &[u32]) -> u32
-    requires { numbers.now ≡ spec.numbers (spec.is_kept_section elf.now) (count elf.now) }
-    ensures value { result ≡ length (spec.kept_sections elf.now) }
+/// How many sections are kept. `before` says how many precede each.
+pub(crate) fn kept_count(elf: &Elf<'_>, before: &[u32]) -> u32
+    requires { before.now ≡ numbers (spec_is_kept elf.now) (count elf.now) }
+    ensures value { result ≡ length (kept_sections elf.now) }
     ensures small { result < 2 ^ 16 }
 {
     let last = elf.section_count() - 1;
     counted(
-        sections_before(elf, numbers, last),
+        sections_before(elf, before, last),
         is_kept_section(elf, last),
     )
+}
+
+/// The header of a section that is kept, with its new name and numbers.
+fn new_header(
+    elf: &Elf<'_>,
+    before: &[u32],
+    i: usize,
+    name_offset: u32,
+    symtab: u32,
+) -> SectionHeader
+    requires there { i < count elf.now }
+    requires numbers { before.now ≡ numbers (spec_is_kept elf.now) (count elf.now) }
+    ensures { (place : List ℕ → ℕ) → name_offset ≡ place (sections.name elf.now i)
+        → section_of result (kept_content elf.now i) ≡ written_section (order_of elf.now) place symtab (kept_section elf.now i) }
+{
+    let section = elf.section(i);
+    SectionHeader {
+        name_offset,
+        link: link_of(section.section_type, symtab),
+        info: target(elf, before, i),
+        ..section
+    }
+}
+
+/// Appends a section with its content.
+fn push_content<A: Allocator + Copy>(
+    alloc: A,
+    file: &mut FileWriter<A>,
+    elf: &Elf<'_>,
+    symbols: &[u32],
+    i: usize,
+    header: &SectionHeader,
+) -> Result<(), ObjectError>
+    requires there { i < count elf.now }
+    requires numbers { symbols.now ≡ numbers (is_kept_symbol elf.now) (symbol_count elf.now) }
+    ensures { (limit : ℕ) (ss : List WrittenSection) → Holds limit ss file.old
+        → let more = ss ++ section_of header.now (kept_content elf.now i) ∷ [] in
+        MatchResult result (λ _. Holds limit more file.new × (file.new.order ≡ file.old.order)) (FailsToHold limit more) }
+{
+    if is_table(elf, i) {
+        let mut rows = Vec::new(alloc);
+        push_table(&mut rows, elf, symbols, i)?;
+        file.push(header, &rows)
+    } else {
+        file.push(header, elf.content(i))
+    }
+}
+
+/// Appends a section that is kept.
+fn push_section<'a, A: Allocator + Copy>(
+    alloc: A,
+    file: &mut FileWriter<A>,
+    names: &mut Names<'a, A>,
+    elf: &Elf<'_>,
+    before: &[u32],
+    symbols: &[u32],
+    symtab: u32,
+    i: usize,
+) -> Result<(), ObjectError>
+    requires there { i < count elf.now }
+    requires before { before.now ≡ numbers (spec_is_kept elf.now) (count elf.now) }
+    requires numbers { symbols.now ≡ numbers (is_kept_symbol elf.now) (symbol_count elf.now) }
+    requires source { names.old.source ≡ sections.content elf.now (names_section elf.now) }
+    requires limit { names.old.limit ≡ result_limit (length elf.now) }
+    ensures { spec.Writes (result_limit (length elf.now)) (sections.name elf.now i ∷ [])
+        (λ place. written_section (order_of elf.now) place symtab (kept_section elf.now i) ∷ [])
+        names.old names.new file.old file.new result }
+{
+    let section = elf.section(i);
+    let name_offset = names.at(section.name_offset)?;
+    let header = new_header(elf, before, i, name_offset, symtab);
+    push_content(alloc, file, elf, symbols, i, &header)
+}
+
+/// Appends a section, if it is kept.
+fn push_if_kept<'a, A: Allocator + Copy>(
+    alloc: A,
+    file: &mut FileWriter<A>,
+    names: &mut Names<'a, A>,
+    elf: &Elf<'_>,
+    before: &[u32],
+    symbols: &[u32],
+    symtab: u32,
+    i: usize,
+) -> Result<(), ObjectError>
+    requires there { i < count elf.now }
+    requires before { before.now ≡ numbers (spec_is_kept elf.now) (count elf.now) }
+    requires numbers { symbols.now ≡ numbers (is_kept_symbol elf.now) (symbol_count elf.now) }
+    requires source { names.old.source ≡ sections.content elf.now (names_section elf.now) }
+    requires limit { names.old.limit ≡ result_limit (length elf.now) }
+    ensures { spec.Writes (result_limit (length elf.now)) (spec.name_if elf.now i) (spec.written_if elf.now symtab i)
+        names.old names.new file.old file.new result }
+{
+    if !is_kept_section(elf, i) {
+        return Ok(());
+    }
+    push_section(alloc, file, names, elf, before, symbols, symtab, i)
+}
+
+/// Appends the sections that are kept.
+pub(crate) fn push_sections<'a, A: Allocator + Copy>(
+    alloc: A,
+    file: &mut FileWriter<A>,
+    names: &mut Names<'a, A>,
+    elf: &Elf<'_>,
+    before: &[u32],
+    symbols: &[u32],
+    symtab: u32,
+) -> Result<(), ObjectError>
+    requires before { before.now ≡ numbers (spec_is_kept elf.now) (count elf.now) }
+    requires numbers { symbols.now ≡ numbers (is_kept_symbol elf.now) (symbol_count elf.now) }
+    requires source { names.old.source ≡ sections.content elf.now (names_section elf.now) }
+    requires limit { names.old.limit ≡ result_limit (length elf.now) }
+    ensures { spec.Writes (result_limit (length elf.now)) (spec.section_names elf.now (count elf.now)) (spec.written_first elf.now symtab (count elf.now))
+        names.old names.new file.old file.new result }
+{
+    for i in 0..elf.section_count() {
+        push_if_kept(alloc, file, names, elf, before, symbols, symtab, i)?;
+    }
+    Ok(())
 }

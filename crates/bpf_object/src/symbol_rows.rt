@@ -1,20 +1,20 @@
 //! The symbols that are kept, with the new offsets of their names and the new numbers of their
 //! sections (System V ABI, "Symbol Table").
 
-ghost use Rattle.std.specs.Prelude.{◌≡◌, ◌++◌, ◌&&◌, ◌<◌, ◌≤◌, ◌^◌, true, [], if◌then◌else◌, OnOk};
+ghost use Rattle.std.specs.Prelude.{◌≡◌, ◌++◌, ◌&&◌, ◌<◌, ◌≤◌, ◌^◌, [], ◌∷◌, if◌then◌else◌, length, OnOk};
 ghost use Rattle.bpf_elf.specs.Headers.{HasSection};
 ghost use Rattle.bpf_elf.specs.Numbers.{count, order_of};
-ghost use Rattle.bpf_elf.specs.Symbols.{is_kept_symbol, is_local, st_info, symbol_count};
+ghost use Rattle.bpf_elf.specs.Symbols.{is_kept_symbol, is_local, st_info, symbol_count, symbol_name, symbol_strings};
 ghost use Rattle.bpf_object.specs.Canonical.{symbol_bytes};
-ghost use Rattle.bpf_object.specs.FileStrings.{HasFileStrings};
+ghost use Rattle.bpf_object.specs.Denotes.{result_limit};
 ghost use Rattle.bpf_object.specs.Kept as spec;
-ghost use Rattle.bpf_object.specs.NotedStrings.{text_offset};
+ghost use Rattle.bpf_object.specs.ObjectWriter as writer;
 ghost use Rattle.bpf_object.specs.SymbolRows as rows;
 
-use crate::file::push64;
-use crate::new_offsets::symbol_name_offset;
+use crate::fault::ObjectError;
+use crate::fields::push64;
+use crate::names::Names;
 use crate::numbering::counted;
-use bpf_canon::DistinctOffsets;
 use bpf_elf::{Elf, Symbol, is_special};
 use bpf_words::{Order, push16, push32};
 use std::alloc::{AllocError, Allocator};
@@ -63,64 +63,64 @@ fn push_row<A: Allocator>(
     push64(out, order, symbol.size)
 }
 
-/// Appends a symbol.
-fn push_symbol<A: Allocator, B: Allocator>(
+/// Appends a symbol that is kept.
+fn push_symbol<'a, A: Allocator + Copy>(
     out: &mut Vec<u8, A>,
-    names: &DistinctOffsets<'_, B>,
+    names: &mut Names<'a, A>,
     elf: &Elf<'_>,
-    numbers: &[u32],
+    before: &[u32],
     j: usize,
-) -> Result<(), AllocError>
+) -> Result<(), ObjectError>
     requires there { j < symbol_count elf.now }
-    requires kept { is_kept_symbol elf.now j ≡ true }
-    requires names { HasFileStrings elf.now names.now }
-    requires numbers { numbers.now ≡ spec.numbers (spec.is_kept_section elf.now) (count elf.now) }
-    ensures { OnOk result (out.new.items ≡ out.old.items
-        ++ symbol_bytes (order_of elf.now) (text_offset names.now)
-        (spec.kept_symbol elf.now j)) }
+    requires before { before.now ≡ spec.numbers (spec.is_kept_section elf.now) (count elf.now) }
+    requires source { names.old.source ≡ symbol_strings elf.now }
+    requires limit { names.old.limit ≡ result_limit (length elf.now) }
+    ensures { writer.WritesRows (result_limit (length elf.now)) (symbol_name elf.now j ∷ []) (λ place. symbol_bytes (order_of elf.now) place (spec.kept_symbol elf.now j))
+        names.old names.new out.old.items out.new.items result }
 {
     let symbol = elf.symbol(j);
-    let name = symbol_name_offset(names, elf, j);
-    let section = symbol_section(elf, numbers, symbol.section);
-    push_row(out, elf.order(), symbol, name, section)
+    let name = names.at(symbol.name_offset)?;
+    let section = symbol_section(elf, before, symbol.section);
+    push_row(out, elf.order(), symbol, name, section)?;
+    Ok(())
 }
 
 /// Appends a symbol, if it is kept.
-fn push_if_kept<A: Allocator, B: Allocator>(
+fn push_if_kept<'a, A: Allocator + Copy>(
     out: &mut Vec<u8, A>,
-    names: &DistinctOffsets<'_, B>,
+    names: &mut Names<'a, A>,
     elf: &Elf<'_>,
-    numbers: &[u32],
+    before: &[u32],
     j: usize,
-) -> Result<(), AllocError>
+) -> Result<(), ObjectError>
     requires there { j < symbol_count elf.now }
-    requires names { HasFileStrings elf.now names.now }
-    requires numbers { numbers.now ≡ spec.numbers (spec.is_kept_section elf.now) (count elf.now) }
-    ensures { OnOk result (out.new.items ≡ out.old.items ++ (if is_kept_symbol elf.now j then
-        symbol_bytes (order_of elf.now) (text_offset names.now) (spec.kept_symbol elf.now j)
-        else [])) }
+    requires before { before.now ≡ spec.numbers (spec.is_kept_section elf.now) (count elf.now) }
+    requires source { names.old.source ≡ symbol_strings elf.now }
+    requires limit { names.old.limit ≡ result_limit (length elf.now) }
+    ensures { writer.WritesRows (result_limit (length elf.now)) (writer.symbol_name_if elf.now j) (writer.symbol_if elf.now j)
+        names.old names.new out.old.items out.new.items result }
 {
-    if elf.is_kept_symbol(j) {
-        push_symbol(out, names, elf, numbers, j)
-    } else {
-        Ok(())
+    if !elf.is_kept_symbol(j) {
+        return Ok(());
     }
+    push_symbol(out, names, elf, before, j)
 }
 
-/// Appends the kept symbols. `numbers` say how many kept sections precede each.
-pub(crate) fn push_symbols<A: Allocator, B: Allocator>(
+/// Appends the symbols that are kept.
+pub(crate) fn push_symbols<'a, A: Allocator + Copy>(
     out: &mut Vec<u8, A>,
-    names: &DistinctOffsets<'_, B>,
+    names: &mut Names<'a, A>,
     elf: &Elf<'_>,
-    numbers: &[u32],
-) -> Result<(), AllocError>
-    requires names { HasFileStrings elf.now names.now }
-    requires numbers { numbers.now ≡ spec.numbers (spec.is_kept_section elf.now) (count elf.now) }
-    ensures { OnOk result (out.new.items ≡ out.old.items
-        ++ rows.symbols_bytes elf.now (text_offset names.now) (symbol_count elf.now)) }
+    before: &[u32],
+) -> Result<(), ObjectError>
+    requires before { before.now ≡ spec.numbers (spec.is_kept_section elf.now) (count elf.now) }
+    requires source { names.old.source ≡ symbol_strings elf.now }
+    requires limit { names.old.limit ≡ result_limit (length elf.now) }
+    ensures { writer.WritesRows (result_limit (length elf.now)) (writer.symbol_names elf.now (symbol_count elf.now)) (writer.symbols_first elf.now (symbol_count elf.now))
+        names.old names.new out.old.items out.new.items result }
 {
     for j in 0..elf.symbol_count() {
-        push_if_kept(out, names, elf, numbers, j)?;
+        push_if_kept(out, names, elf, before, j)?;
     }
     Ok(())
 }

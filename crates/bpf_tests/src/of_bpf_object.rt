@@ -1,10 +1,8 @@
-//! Sections by the layouts of btf.rst, and what is reported of them with a byte changed; and a file
-//! by the layout of the System V ABI.
+//! Sections by the layouts of btf.rst, and what is reported of them with a byte changed.
 
 mod canonical;
 
-use bpf_elf::{Elf, ElfCause, ElfFault};
-use bpf_object::{ObjectCause as Cause, ObjectFault, WrittenSection, check_extension, write_file};
+use bpf_object::{ObjectCause as Cause, ObjectFault, check_extension};
 use bpf_words::Order;
 
 /// One function with one line and one CO-RE relocation, all of .text.
@@ -48,36 +46,4 @@ fn the_first_fault_is_reported_where_it_is(rt: HostRuntime) {
         });
         assert_eq!(rt; found, wanted, "{name}");
     }
-}
-
-#[test]
-fn a_file_is_its_header_a_padded_content_and_the_section_headers(rt: HostRuntime) {
-    let names = WrittenSection {
-        name_offset: 1,
-        section_type: 3,
-        flags: 0,
-        address: 0,
-        size: 9,
-        link: 0,
-        info: 0,
-        alignment: 1,
-        entry_size: 0,
-        content: b"\0.strtab\0",
-    };
-    let file = write_file(rt.alloc(), Order::Big, 7, &[names]).expect(&rt, "memory");
-    assert_eq!(rt; file.len(), 64 + 16 + 2 * 64);
-    let table = [
-        0, 0, 0, 0, 0, 0, 0, 80, 0, 0, 0, 7, 0, 64, 0, 0, 0, 0, 0, 64, 0, 2, 0, 1,
-    ];
-    assert_eq!(rt; file.get(40..64), Some(table.as_slice()));
-    assert_eq!(rt;
-        file.get(64..80),
-        Some(b"\0.strtab\0\0\0\0\0\0\0\0".as_slice())
-    );
-    let read = Elf::read(&file).map(|elf| elf.section_count());
-    let wanted = Err(ElfFault {
-        pos: 40,
-        cause: ElfCause::NoSymbols,
-    });
-    assert_eq!(rt; read, wanted);
 }

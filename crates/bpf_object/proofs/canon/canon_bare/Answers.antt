@@ -4,4 +4,5 @@ use Rattle.bpf_object.proofs.canon.canon_bare.Goals as goal
 
 pub returns : goal.returns
 returns g c =
-    with_contents (λ out. out.items) c.args.elf.now None c.fitting_file.result c.requires.elf (c.requires.bare, c.in_ok-check_no_extension.ensures) refl c.fitting_file.ensures
+    with_contents (λ out. out.items) c.args.elf.now None c.write_object.result c.requires.elf (c.requires.bare, c.in_ok-check_no_extension.ensures) refl
+    (c.write_object.ensures None (record { types_are = refl; extension_is = refl }))

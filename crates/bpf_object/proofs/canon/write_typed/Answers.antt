@@ -16,5 +16,5 @@ returns g c =
     let keeps : Keeps c.args.elf.now c.args.sections.now =
     record { elf = c.requires.elf; there = c.requires.there; types = c.requires.types; extension = c.requires.extension } in
     let written = rw c.in-Some.is at c.in_ok-written.ensures in
-    typed_file (λ out. out.items) c.args.elf.now c.args.sections.now (section c.args.x) _ _ c.fitting_file.result keeps c.requires.own
-    (written.fit, (ap Some (c.as_slice.ensures.value ∙ written.types), c.content-extension.ensures ∙ written.extension)) c.fitting_file.ensures
+    typed_file (λ out. out.items) c.args.elf.now c.args.sections.now (section c.args.x) _ _ c.write_object.result keeps c.requires.own
+    (written.fit, (ap Some (c.as_slice.ensures.value ∙ written.types), c.content-extension.ensures ∙ written.extension)) c.write_object.ensures

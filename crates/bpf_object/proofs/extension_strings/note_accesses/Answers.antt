@@ -1,7 +1,7 @@
 use Rattle.std.proofs.Common.{◌∙◌, true, refl}
 use Rattle.bpf_object.specs.Groups.{access_off}
 use Rattle.bpf_object.specs.Sources.{section}
-use Rattle.bpf_object.proofs.FileStringLemmas.{noted_more}
+use Rattle.bpf_object.proofs.NotedLemmas.{noted_more}
 use Rattle.bpf_object.proofs.KeptLemmas.{all}
 use Rattle.bpf_object.proofs.extension_strings.note_accesses.Goals as goal
 

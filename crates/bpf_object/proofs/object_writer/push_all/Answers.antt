@@ -1,31 +1,33 @@
-use Rattle.std.proofs.Common.{◌≡◌, ◌++◌, ℕ, map, subst}
-use Rattle.std.specs.Prelude.{codes}
+use Rattle.std.proofs.Common.{ℕ, List, ◌++◌, length, sym, subst}
 use Rattle.bpf_elf.specs.Numbers.{count}
-use Rattle.bpf_canon.specs.btf.strings.{NamesByOffset.texts_by_offset, DistinctNames.distinct_table}
-use Rattle.bpf_object.specs.{FileWith.section_with, NotedStrings.text_offset, ObjectParts.last_sections, SectionRows.written_kept, Written.content_of}
-use Rattle.bpf_object.specs.WrittenSections.{section_value}
-use Rattle.bpf_object.proofs.FileStringLemmas.{types_noted, extension_noted}
-use Rattle.bpf_object.proofs.PartLemmas.{four_pushed, symtab_is}
+use Rattle.btf_types.specs.Names.{kept}
+use Rattle.bpf_object.specs.declared.fault.ObjectError.{ObjectError}
+use Rattle.bpf_object.specs.Canonical.{offset_of}
+use Rattle.bpf_object.specs.Denotes.{result_limit}
+use Rattle.bpf_object.specs.File.{WrittenSection}
+use Rattle.bpf_object.specs.FileWriter.{Holds}
+use Rattle.bpf_object.specs.Names.{Extends}
+use Rattle.bpf_object.specs.ObjectWriter.{FailsToWrite, section_names, written_first, names_with, both_with, first_written}
+use Rattle.bpf_object.specs.Written.{content_of}
+use Rattle.bpf_object.proofs.ObjectWriterLemmas.{failed_one, writes_both, first_fails}
 use Rattle.bpf_object.proofs.object_writer.push_all.Goals as goal
-
-pub push_types-requires-clause-noted : goal.push_types-requires-clause-noted
-push_types-requires-clause-noted g c =
-    types_noted c.args.elf.now (content_of c.args.types) (content_of c.args.extension) c.args.names c.requires.names
-
-pub push_types-requires-2-clause-noted : goal.push_types-requires-2-clause-noted
-push_types-requires-2-clause-noted g c =
-    extension_noted c.args.elf.now (content_of c.args.types) (content_of c.args.extension) c.args.names c.requires.names
 
 pub returns : goal.returns
 returns g c =
     let b = c.args.elf.now in
-    let place = text_offset c.args.names in
     let types = content_of c.args.types in
     let extension = content_of c.args.extension in
-    let old = map section_value c.args.sections.now.items in
-    let new = map section_value c.push_last.new.sections.items in
-    let symtab = symtab_is b c.args.types c.args.extension _ _ _ c.is_some.ensures c.is_some-2.ensures c.symtab_number-symtab.ensures.value in
-    subst (λ (n : ℕ). new ≡ old ++ (written_kept b place n (count b)
-    ++ ((section_with place (codes ".BTF") types ++ section_with place (codes ".BTF.ext") extension)
-    ++ last_sections b place n c.args.parts.now.symbols.items (distinct_table (texts_by_offset c.args.names))))) symtab
-    (four_pushed old _ _ _ new _ _ _ _ c.in_ok-push_kept.ensures c.in_ok-push_types.ensures c.in_ok-push_types-2.ensures c.in_ok-push_last.ensures)
+    writes_both (result_limit (length b)) (section_names b (count b)) (names_with types extension) (written_first b c.args.symtab (count b)) (both_with types extension)
+    c.args.names.now c.args.file.now c.push_sections.new.names c.push_both.new.names c.push_sections.new.file c.push_both.new.file c.push_both.result c.requires.limit c.in_ok-push_sections.ensures c.push_both.ensures
+
+pub returns-in_err-push_sections : goal.returns-in_err-push_sections
+returns-in_err-push_sections g c all more =
+    let b = c.args.elf.now in
+    let limit = result_limit (length b) in
+    let types = content_of c.args.types in
+    let extension = content_of c.args.extension in
+    let names = c.args.names.now in
+    let file = c.args.file.now in
+    failed_one c.from_residual-in_err-push_sections.result _ (λ e. (before : List WrittenSection) → Holds limit before file → FailsToWrite limit all (before ++ first_written b c.args.symtab types extension (offset_of all)) e) _ c.from_residual-in_err-push_sections.ensures.0 c.from_residual-in_err-push_sections.ensures.1
+    (λ e is. first_fails limit (section_names b (count b)) (names_with types extension) (written_first b c.args.symtab (count b)) (both_with types extension) names file e
+    (subst (λ (f : ObjectError). (any : List (List ℕ)) → Extends any (kept (names.texts ++ section_names b (count b))) → (before : List WrittenSection) → Holds limit before file → FailsToWrite limit any (before ++ written_first b c.args.symtab (count b) (offset_of any)) f) (sym is) c.in_err-push_sections.ensures) all more)

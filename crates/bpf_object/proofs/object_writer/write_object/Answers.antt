@@ -1,40 +1,43 @@
-use Rattle.std.proofs.Common.{[], ap, map, length, refl, ◌∙◌, arith}
-use Rattle.std.proofs.lemmas.List.{length-map}
-use Rattle.bpf_object.specs.Denotes.{result_limit}
+use Rattle.std.proofs.Common.{ℕ, List, [], ◌++◌, length, ap, sym, subst, ◌∙◌}
+use Rattle.btf_types.specs.Names.{kept}
+use Rattle.bpf_object.specs.declared.fault.ObjectError.{ObjectError}
+use Rattle.bpf_object.specs.Canonical.{file_strings, offset_of, written_sections}
+use Rattle.bpf_object.specs.Denotes.{object_of, result_limit}
+use Rattle.bpf_object.specs.File.{WrittenSection}
+use Rattle.bpf_object.specs.FileWriter.{Holds}
+use Rattle.bpf_object.specs.Names.{Strings, Extends}
+use Rattle.bpf_object.specs.ObjectWriter.{FailsToWrite, first_names, first_written}
 use Rattle.bpf_object.specs.Written.{content_of}
-use Rattle.bpf_object.specs.WrittenSections.{section_value}
-use Rattle.bpf_object.proofs.PartLemmas.{few_with, fitting_is, strings_too_long}
-use Rattle.bpf_object.proofs.ReadBackTests.{over_test}
-use Rattle.bpf_object.proofs.StringsFit.{table_long, if_none, if_some, own_strings_are}
+use Rattle.bpf_object.proofs.ObjectWriterLemmas.{extends_own, failed_one}
+use Rattle.bpf_object.proofs.WrittenObject.{object_written, all_fail, all_done}
 use Rattle.bpf_object.proofs.object_writer.write_object.Goals as goal
 
-pub returns-in_default : goal.returns-in_default
-returns-in_default g c =
-    let b = c.args.elf.now in
-    let long = if_none c.in_ok-found.found _ _ c.in_default.is c.in_ok-found.ensures in
-    let table = table_long b c.args.types c.args.extension _ c.is_some.result c.is_some-2.result c.in_ok-strings.ensures.rules c.is_some.ensures c.is_some-2.ensures long in
-    over_test _ (result_limit (length b))
-    (rw c.result_limit-limit.ensures.value at (strings_too_long b (content_of c.args.types) (content_of c.args.extension) c.result_limit-limit.result table))
-
-pub sections_of-requires-clause-names : goal.sections_of-requires-clause-names
-sections_of-requires-clause-names g c =
-    let names = if_some c.in_ok-found.found c.in-Some.names _ _ c.in-Some.is c.in_ok-found.ensures in
-    own_strings_are c.args.elf.now c.args.types c.args.extension c.in-Some.names [] c.is_some.result c.is_some-2.result names.0 names.1 refl c.is_some.ensures
-    c.is_some-2.ensures
-
-pub write_fitting-requires-clause-few : goal.write_fitting-requires-clause-few
-write_fitting-requires-clause-few g c =
-    let b = c.args.elf.now in
-    let same = ap (map section_value) c.deref-2.ensures.value ∙ c.in_ok-sections.ensures in
-    omega (
-      arith,
-      length-map c.deref-2.result.now section_value,
-      ap length same,
-      few_with b (content_of c.args.types) (content_of c.args.extension) c.in_ok-strings.ensures.rules,
-    )
+pub write_tail-requires-clause-limit : goal.write_tail-requires-clause-limit
+write_tail-requires-clause-limit g c =
+    let names = c.in_ok-names.names in
+    let first = first_names c.args.elf.now (content_of c.args.types) (content_of c.args.extension) in
+    (c.in_ok-push_all.ensures (names.texts ++ first) (extends_own (names.texts ++ first))).limit_is ∙ ap (λ (n : Strings). n.limit) c.in_ok-names.ensures ∙ c.result_limit-limit.ensures.value
 
 pub returns : goal.returns
-returns g c =
-    let same = ap (map section_value) c.deref-2.ensures.value ∙ c.in_ok-sections.ensures in
-    fitting_is c.args.elf.now (content_of c.args.types) (content_of c.args.extension) c.result_limit-limit.result (map section_value c.deref-2.result.now) c.in_ok-file.file
-    c.result_limit-limit.ensures.value same c.in_ok-file.ensures
+returns g c t are =
+    let b = c.args.elf.now in
+    let file = c.in_ok-file.file in
+    let start = subst (λ (n : ℕ). Holds n [] file) c.result_limit-limit.ensures.value c.in_ok-file.ensures.0 in
+    object_written (λ out. out.items) b t c.write_tail.result c.requires
+    (all_done b t (content_of c.args.types) (content_of c.args.extension) are c.symtab_number-symtab.result c.symtab_number-symtab.ensures.value c.in_ok-names.names file
+    (ap (λ (n : Strings). n.texts) c.in_ok-names.ensures) start c.push_all.new.names c.push_all.new.file (c.in_ok-file.ensures.1 ∙ c.order.ensures) c.in_ok-push_all.ensures (λ out. out.items) c.write_tail.result c.write_tail.ensures)
+
+pub returns-in_err-push_all : goal.returns-in_err-push_all
+returns-in_err-push_all g c t are =
+    let b = c.args.elf.now in
+    let limit = result_limit (length b) in
+    let types = content_of c.args.types in
+    let extension = content_of c.args.extension in
+    let symtab = c.symtab_number-symtab.result in
+    let names = c.in_ok-names.names in
+    let file = c.in_ok-file.file in
+    let start = subst (λ (n : ℕ). Holds n [] file) c.result_limit-limit.ensures.value c.in_ok-file.ensures.0 in
+    object_written (λ out. out.items) b t c.from_residual-in_err-push_all.result c.requires
+    (failed_one c.from_residual-in_err-push_all.result _ (FailsToWrite limit (file_strings (object_of b t)) (written_sections (object_of b t))) _ c.from_residual-in_err-push_all.ensures.0 c.from_residual-in_err-push_all.ensures.1
+    (λ e is. all_fail b t types extension are symtab c.symtab_number-symtab.ensures.value names file (ap (λ (n : Strings). n.texts) c.in_ok-names.ensures) start e
+    (subst (λ (f : ObjectError). (all : List (List ℕ)) → Extends all (kept (names.texts ++ first_names b types extension)) → (before : List WrittenSection) → Holds limit before file → FailsToWrite limit all (before ++ first_written b symtab types extension (offset_of all)) f) (sym is) c.in_err-push_all.ensures)))

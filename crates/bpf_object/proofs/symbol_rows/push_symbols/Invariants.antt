@@ -1,7 +1,5 @@
-use Rattle.std.proofs.Common.{◌≡◌, ◌++◌}
-use Rattle.bpf_object.specs.NotedStrings.{text_offset}
-use Rattle.bpf_object.specs.SymbolRows.{symbols_bytes}
+use Rattle.bpf_object.proofs.ObjectWriterLemmas.{RowsTo}
 use Rattle.bpf_object.proofs.symbol_rows.push_symbols.Given as goal
 
 abbrev pub invariant-loop-j : goal.invariant-loop-j
-invariant-loop-j g l = l.out.items ≡ l.initial.out.items ++ symbols_bytes l.elf (text_offset l.names) l.j
+invariant-loop-j g l = RowsTo l.elf l.initial.names l.names l.initial.out.items l.out.items l.j

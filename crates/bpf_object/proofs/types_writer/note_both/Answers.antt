@@ -5,7 +5,7 @@ use Rattle.bpf_object.specs.declared.extension.Part.TheVariants.{Functions, Relo
 use Rattle.bpf_object.specs.Extension.{groups}
 use Rattle.bpf_object.specs.Sources.{section}
 use Rattle.bpf_object.specs.WrittenGroups.{groups_offsets}
-use Rattle.bpf_object.proofs.FileStringLemmas.{three_noted}
+use Rattle.bpf_object.proofs.NotedLemmas.{three_noted}
 use Rattle.bpf_object.proofs.types_writer.note_both.Goals as goal
 
 pub returns-clause-offsets : goal.returns-clause-offsets

@@ -1,0 +1,64 @@
+-- A string table while it is written: each distinct string once, in the order of first use.
+use Rattle.std.specs.Prelude.{◌≡◌, ◌≢◌, ℕ, zero, suc, ◌<◌, ◌≤◌, ◌^◌, ⊤, List, [], ◌∷◌, ◌++◌, Some, length, slice_index}
+use Rattle.std.specs.{List.All, Map.update, Str.bytes_eq}
+use Rattle.bpf_elf.specs.Names.{string_at}
+use Rattle.btf_raw.specs.Names.{IsWithoutNul}
+use Rattle.btf_types.specs.Names.{kept, table_of}
+use Rattle.bpf_canon.specs.btf.names.Interned.{IsInTable}
+use Rattle.bpf_canon.specs.btf.strings.{DistinctNames.distinct_offset, DistinctOffsets.OffsetsByText, DistinctOffsets.offset_for, DistinctOffsets.IsTableOf}
+use Rattle.bpf_object.specs.declared.fault.ObjectError.{ObjectError}
+use Rattle.bpf_object.specs.declared.fault.ObjectError.TheVariants as errors
+use Rattle.bpf_object.specs.ObjectFaults.{IsTooLarge}
+
+-- the strings that were written, the table that strings are read from, and how long the new one may be
+pub record Strings : Type 0 where
+  pub texts : List (List ℕ)
+  pub source : List ℕ
+  pub limit : ℕ
+
+-- what precedes each NUL
+abbrev pub cut_from : List ℕ → List ℕ → List (List ℕ)
+cut_from front [] = []
+cut_from front (zero ∷ cs) = front ∷ cut_from [] cs
+cut_from front (suc c ∷ cs) = cut_from (front ++ suc c ∷ []) cs
+
+-- the strings of a table: those after the first NUL
+abbrev pub strings_in : List ℕ → List (List ℕ)
+strings_in [] = []
+strings_in (c ∷ cs) = cut_from [] cs
+
+-- for each offset in another table, that of its string in this one, or 0 if it isn't known
+abbrev pub KnowsOffsets : List (List ℕ) → List ℕ → List ℕ → Type 0
+KnowsOffsets ks source known =
+    (off : ℕ) → slice_index known off ≢ 0 → IsInTable ks (string_at source off) × (slice_index known off ≡ distinct_offset ks (string_at source off))
+
+-- the table and the maps
+pub record IsStringTable (bytes : List ℕ) (by_text : OffsetsByText) (source known : List ℕ) (limit : ℕ) : Type 0 where
+  pub table : IsTableOf (strings_in bytes) bytes by_text
+  pub own : kept (strings_in bytes) ≡ strings_in bytes
+  pub without_nul : All IsWithoutNul (strings_in bytes)
+  pub offsets : KnowsOffsets (strings_in bytes) source known
+  pub whole : length known ≡ length source
+  pub within : length bytes ≤ limit
+  pub limited : limit < 2 ^ 32
+
+-- a string with its NUL was appended, and its offset stored
+pub record PushesText (old new : List ℕ) (old_offsets new_offsets : OffsetsByText) (x : List ℕ) (offset : ℕ) : Type 0 where
+  pub bytes : new ≡ (old ++ x) ++ 0 ∷ []
+  pub offsets : (y : List ℕ) → offset_for new_offsets y ≡ update bytes_eq (offset_for old_offsets) x (Some offset) y
+
+-- a string is in the new table, at this offset
+pub record Adds (old new : Strings) (x : List ℕ) (offset : ℕ) : Type 0 where
+  pub texts : new.texts ≡ kept (old.texts ++ x ∷ [])
+  pub source : new.source ≡ old.source
+  pub limit : new.limit ≡ old.limit
+  pub offset_is : offset ≡ distinct_offset new.texts x
+
+-- the table would be too long with it
+abbrev pub FailsToAdd : Strings → List ℕ → ObjectError → Type 0
+FailsToAdd old x (errors.Fault fault) = (old.limit < length (table_of (kept (old.texts ++ x ∷ [])))) × IsTooLarge fault
+FailsToAdd old x errors.Memory = ⊤
+
+-- a list of strings begins with those of a table, in the order of first use
+abbrev pub Extends : List (List ℕ) → List (List ℕ) → Type 0
+Extends all ks = (rest : List (List ℕ)) × (kept all ≡ ks ++ rest)
