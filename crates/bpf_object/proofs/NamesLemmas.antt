@@ -1,8 +1,8 @@
 -- The steps of a string table while it is written.
-use Rattle.std.proofs.Common.{◌≡◌, ℕ, zero, suc, ◌-◌, ◌<◌, ◌≤◌, ◌⊎◌, inl, inr, Some, None, List, [], ◌∷◌, ◌++◌, length, get_or, set, refl, sym, ap, ◌∙◌, subst, arith, drop, append-nil, append_assoc}
-use Rattle.std.specs.{List.All, List.Contains, List.flat_map}
-use Rattle.std.proofs.lemmas.Bool.{cases_eq}
-use Rattle.std.proofs.lemmas.List.{length-set, get_or-set_same, get_or-set_other}
+use Rattle.std.proofs.Common.{◌≡◌, ℕ, zero, suc, ◌-◌, ◌<◌, ◌≤◌, ◌⊎◌, inl, inr, true, cond, Some, None, List, [], ◌∷◌, ◌++◌, length, get_or, refl, sym, ap, ◌∙◌, subst, arith, rules, drop, append-nil, append_assoc}
+use Rattle.std.specs.{BTreeMap.BTreeMap, BTreeMap.get_by, List.All, List.Contains, List.flat_map, Ordering.nat_cmp, Ordering.is_eq}
+use Rattle.std.proofs.lemmas.Bool.{cases_Bool, cond-true, cond-false}
+use Rattle.std.proofs.lemmas.Bool.Decides.{nat_tests}
 use Rattle.std.proofs.lemmas.List.Elements.{All-head, All-tail, All-contains}
 use Rattle.bpf_elf.specs.Names.{string_at}
 use Rattle.btf_raw.specs.Names.{IsWithoutNul}
@@ -44,6 +44,9 @@ nul_free (suc c ∷ bytes) (suc i) h = nul_free bytes i (omega (arith, h))
 
 pub string_without_nul : (strings : List ℕ) (off : ℕ) → IsWithoutNul (string_at strings off)
 string_without_nul strings off = subst IsWithoutNul (sym (string_is_text strings off)) (nul_free (drop off strings))
+
+same_number : (a b : ℕ) → is_eq (nat_cmp a b) ≡ true → a ≡ b
+same_number a b e = grind (arith, rules, nat_tests)
 
 -- ---- one string more
 
@@ -99,19 +102,19 @@ offsets_again xs [] = refl
 offsets_again xs (b ∷ x) = ap (λ l. offset_within l (b ∷ x)) (sym (kept_again xs))
 
 -- the table with one more string
-pub record Stored (ks : List (List ℕ)) (new source : List ℕ) (more : OffsetsByText) (known : List ℕ) (x : List ℕ) (limit offset : ℕ) : Type 0 where
-  pub table : IsStringTable new more source known limit
+pub record Stored (ks : List (List ℕ)) (new source : List ℕ) (more : OffsetsByText) (by_offset : BTreeMap ℕ ℕ) (x : List ℕ) (limit offset : ℕ) : Type 0 where
+  pub table : IsStringTable new more source by_offset limit
   pub texts : strings_in new ≡ kept (ks ++ x ∷ [])
   pub offset_is : offset ≡ distinct_offset (strings_in new) x
 
-module _ (bytes source : List ℕ) (by_text : OffsetsByText) (known : List ℕ) (limit : ℕ) (is : IsStringTable bytes by_text source known limit) where
+module _ (bytes source : List ℕ) (by_text : OffsetsByText) (by_offset : BTreeMap ℕ ℕ) (limit : ℕ) (is : IsStringTable bytes by_text source by_offset limit) where
   abbrev ks : List (List ℕ)
   ks = strings_in bytes
 
   table_kept : IsTableOf (kept ks) bytes by_text
   table_kept = subst (λ (l : List (List ℕ)). IsTableOf l bytes by_text) (sym is.own) is.table
 
-  stored : (new : List ℕ) (more : OffsetsByText) (x : List ℕ) (offset : ℕ) → IsWithoutNul x → HasOffset (ks ++ x ∷ []) new more x limit offset → Stored ks new source more known x limit offset
+  stored : (new : List ℕ) (more : OffsetsByText) (x : List ℕ) (offset : ℕ) → IsWithoutNul x → HasOffset (ks ++ x ∷ []) new more x limit offset → Stored ks new source more by_offset x limit offset
   stored new more x offset none has =
       let clean = more_without_nul ks is.own x is.without_nul none in
       let same : strings_in new ≡ kept (ks ++ x ∷ []) = strings_are (kept (ks ++ x ∷ [])) new has.table.bytes_are clean in
@@ -120,11 +123,10 @@ module _ (bytes source : List ℕ) (by_text : OffsetsByText) (known : List ℕ) 
           table = subst (λ (l : List (List ℕ)). IsTableOf l new more) (sym same) has.table;
           own = ap kept same ∙ kept_again (ks ++ x ∷ []) ∙ sym same;
           without_nul = subst (All IsWithoutNul) (sym same) clean;
-          offsets = subst (λ (l : List (List ℕ)). KnowsOffsets l source known) (sym same) (λ off e.
-              let k = is.offsets off e in
+          offsets = subst (λ (l : List (List ℕ)). KnowsOffsets l source by_offset) (sym same) (λ off known e.
+              let k = is.offsets off known e in
               let s = stays ks is.own x (string_at source off) k.0 in
               (s.0, k.1 ∙ sym s.1));
-          whole = is.whole;
           within = has.within;
           limited = is.limited;
         };
@@ -132,15 +134,15 @@ module _ (bytes source : List ℕ) (by_text : OffsetsByText) (known : List ℕ) 
         offset_is = has.text_offset_is ∙ offsets_again (ks ++ x ∷ []) x ∙ ap (λ (l : List (List ℕ)). distinct_offset l x) (sym same);
       }
 
-  pub stored_empty : (x : List ℕ) → length x ≡ 0 → Stored ks bytes source by_text known x limit 0
+  pub stored_empty : (x : List ℕ) → length x ≡ 0 → Stored ks bytes source by_text by_offset x limit 0
   stored_empty x z =
       stored bytes by_text x 0 (λ i h. absurd (omega (arith, h, z))) (adds_empty ks bytes by_text x limit table_kept is.within z)
 
-  pub stored_known : (x : List ℕ) (offset : ℕ) → IsWithoutNul x → 0 < length x → offset_for by_text x ≡ Some offset → Stored ks bytes source by_text known x limit offset
+  pub stored_known : (x : List ℕ) (offset : ℕ) → IsWithoutNul x → 0 < length x → offset_for by_text x ≡ Some offset → Stored ks bytes source by_text by_offset x limit offset
   stored_known x offset none some found = stored bytes by_text x offset none (adds_known ks bytes by_text x limit table_kept is.within offset some found)
 
   pub stored_new : (x new : List ℕ) (more : OffsetsByText) (offset : ℕ) → IsWithoutNul x → 0 < length x → offset_for by_text x ≡ None → length x < limit - length bytes → offset ≡ length bytes
-      → PushesText bytes new by_text more x offset → Stored ks new source more known x limit offset
+      → PushesText bytes new by_text more x offset → Stored ks new source more by_offset x limit offset
   stored_new x new more offset none some absent room offset_is push =
       stored new more x offset none (adds_new ks bytes by_text x limit table_kept is.within new more offset some absent room offset_is push.bytes push.offsets)
 
@@ -148,9 +150,9 @@ module _ (bytes source : List ℕ) (by_text : OffsetsByText) (known : List ℕ) 
   past_limit x some absent full = adds_none ks bytes by_text x limit table_kept is.within some absent full
 
   -- if memory runs out, nothing has changed
-  pub unchanged : (same : List ℕ) (map : OffsetsByText) → same ≡ bytes → map.entries ≡ by_text.entries → IsStringTable same map source known limit
+  pub unchanged : (same : List ℕ) (map : OffsetsByText) → same ≡ bytes → map.entries ≡ by_text.entries → IsStringTable same map source by_offset limit
   unchanged same map e entries =
-      subst (λ (b : List ℕ). IsStringTable b map source known limit) (sym e) (record {
+      subst (λ (b : List ℕ). IsStringTable b map source by_offset limit) (sym e) (record {
         table = record {
           bytes_are = is.table.bytes_are;
           there = λ x c. found_same x ∙ is.table.there x c;
@@ -159,7 +161,6 @@ module _ (bytes source : List ℕ) (by_text : OffsetsByText) (known : List ℕ) 
         own = is.own;
         without_nul = is.without_nul;
         offsets = is.offsets;
-        whole = is.whole;
         within = is.within;
         limited = is.limited;
       })
@@ -167,25 +168,37 @@ module _ (bytes source : List ℕ) (by_text : OffsetsByText) (known : List ℕ) 
       found_same : (x : List ℕ) → offset_for map x ≡ offset_for by_text x
       found_same x = rw entries refl
 
-  -- the offset of a string is stored at its offset in the table that is read
-  pub known_stored : (off offset : ℕ) → IsInTable ks (string_at source off) → offset ≡ distinct_offset ks (string_at source off) → off < length source → IsStringTable bytes by_text source (set known off offset) limit
-  known_stored off offset has offset_is inside = record {
+  -- the offset of a string is stored by its offset in the table that is read
+  pub known_stored : (more : BTreeMap ℕ ℕ) (off offset : ℕ) → IsInTable ks (string_at source off) → offset ≡ distinct_offset ks (string_at source off)
+      → ((q : ℕ) → get_by (nat_cmp q) more ≡ cond (is_eq (nat_cmp off q)) (Some offset) (get_by (nat_cmp q) by_offset)) → IsStringTable bytes by_text source more limit
+  known_stored more off offset has offset_is put = record {
     table = is.table;
     own = is.own;
     without_nul = is.without_nul;
-    offsets = λ q e. elim (cases_eq q off) [
+    offsets = λ q known e. elim (cases_Bool (is_eq (nat_cmp off q))) [
       | inl same ↦
-          let here : get_or (set known off offset) q 0 ≡ offset = ap (λ (i : ℕ). get_or (set known off offset) i 0) same ∙ get_or-set_same known off offset 0 (omega (arith, inside, is.whole)) in
-          (subst (λ (o : ℕ). IsInTable ks (string_at source o)) (sym same) has, here ∙ offset_is ∙ ap (λ (o : ℕ). distinct_offset ks (string_at source o)) (sym same))
-      | inr other ↦
-          let there : get_or (set known off offset) q 0 ≡ get_or known q 0 = get_or-set_other known off q offset 0 other in
-          let k = is.offsets q (λ z. e (there ∙ z)) in
-          (k.0, there ∙ k.1)
+          let here : get_by (nat_cmp q) more ≡ Some offset = put q ∙ cond-true (is_eq (nat_cmp off q)) (Some offset) (get_by (nat_cmp q) by_offset) same in
+          let is_q : off ≡ q = same_number off q same in
+          let is_known : offset ≡ known = cc in
+          (subst (λ (o : ℕ). IsInTable ks (string_at source o)) is_q has, sym is_known ∙ offset_is ∙ ap (λ (o : ℕ). distinct_offset ks (string_at source o)) is_q)
+      | inr other ↦ is.offsets q known (sym (put q ∙ cond-false (is_eq (nat_cmp off q)) (Some offset) (get_by (nat_cmp q) by_offset) other) ∙ e)
     ];
-    whole = length-set known off offset ∙ is.whole;
     within = is.within;
     limited = is.limited;
   }
+
+  pub known_same : (more : BTreeMap ℕ ℕ) → more.entries ≡ by_offset.entries → IsStringTable bytes by_text source more limit
+  known_same more entries = record {
+    table = is.table;
+    own = is.own;
+    without_nul = is.without_nul;
+    offsets = λ q known e. is.offsets q known (sym (got_same q) ∙ e);
+    within = is.within;
+    limited = is.limited;
+  }
+    where
+      got_same : (q : ℕ) → get_by (nat_cmp q) more ≡ get_by (nat_cmp q) by_offset
+      got_same q = rw entries refl
 
 -- the offset of a string that was read and added
 abbrev pub IsKnown : Strings → ℕ → ℕ → Type 0

@@ -1,5 +1,5 @@
 -- The sections that are kept.
-use Rattle.std.proofs.Common.{◌≡◌, ℕ, suc, ◌+◌, ◌==◌, Bool, true, false, cond, List, [], ◌∷◌, ◌++◌, length, sym, ap, ◌∙◌, append-nil, refl}
+use Rattle.std.proofs.Common.{◌≡◌, ℕ, suc, ◌+◌, ◌==◌, Bool, true, false, cond, List, [], ◌++◌, length, sym, ap, ◌∙◌, append-nil, refl}
 use Rattle.std.specs.List.{flat_map}
 use Rattle.bpf_elf.specs.Numbers.{count, order_of, type, flags, address, size, alignment, entry_size}
 use Rattle.bpf_elf.specs.{Sections.content, Sections.name, Kinds.SHT_REL}

@@ -1,6 +1,6 @@
 -- A string table while it is written: each distinct string once, in the order of first use.
-use Rattle.std.specs.Prelude.{◌≡◌, ◌≢◌, ℕ, zero, suc, ◌<◌, ◌≤◌, ◌^◌, ⊤, List, [], ◌∷◌, ◌++◌, Some, length, slice_index}
-use Rattle.std.specs.{List.All, Map.update, Str.bytes_eq}
+use Rattle.std.specs.Prelude.{◌≡◌, ℕ, zero, suc, ◌<◌, ◌≤◌, ◌^◌, ⊤, List, [], ◌∷◌, ◌++◌, Some, length}
+use Rattle.std.specs.{BTreeMap.BTreeMap, BTreeMap.get_by, List.All, Map.update, Ordering.nat_cmp, Str.bytes_eq}
 use Rattle.bpf_elf.specs.Names.{string_at}
 use Rattle.btf_raw.specs.Names.{IsWithoutNul}
 use Rattle.btf_types.specs.Names.{kept, table_of}
@@ -27,18 +27,17 @@ abbrev pub strings_in : List ℕ → List (List ℕ)
 strings_in [] = []
 strings_in (c ∷ cs) = cut_from [] cs
 
--- for each offset in another table, that of its string in this one, or 0 if it isn't known
-abbrev pub KnowsOffsets : List (List ℕ) → List ℕ → List ℕ → Type 0
-KnowsOffsets ks source known =
-    (off : ℕ) → slice_index known off ≢ 0 → IsInTable ks (string_at source off) × (slice_index known off ≡ distinct_offset ks (string_at source off))
+-- the offsets of strings that are in the table, by their offsets in another one
+abbrev pub KnowsOffsets : List (List ℕ) → List ℕ → BTreeMap ℕ ℕ → Type 0
+KnowsOffsets ks source by_offset =
+    (off offset : ℕ) → get_by (nat_cmp off) by_offset ≡ Some offset → IsInTable ks (string_at source off) × (offset ≡ distinct_offset ks (string_at source off))
 
 -- the table and the maps
-pub record IsStringTable (bytes : List ℕ) (by_text : OffsetsByText) (source known : List ℕ) (limit : ℕ) : Type 0 where
+pub record IsStringTable (bytes : List ℕ) (by_text : OffsetsByText) (source : List ℕ) (by_offset : BTreeMap ℕ ℕ) (limit : ℕ) : Type 0 where
   pub table : IsTableOf (strings_in bytes) bytes by_text
   pub own : kept (strings_in bytes) ≡ strings_in bytes
   pub without_nul : All IsWithoutNul (strings_in bytes)
-  pub offsets : KnowsOffsets (strings_in bytes) source known
-  pub whole : length known ≡ length source
+  pub offsets : KnowsOffsets (strings_in bytes) source by_offset
   pub within : length bytes ≤ limit
   pub limited : limit < 2 ^ 32
 

@@ -2,8 +2,8 @@
 //!
 //! No two strings share bytes, so the offset of a string is final when it is first met, and a file
 //! is written in one pass. Strings are sorted by their lengths first: those inside one string have
-//! different lengths, and may have all bytes of the shorter one in common. The string at an offset
-//! is looked up by its bytes once: it may be long, and may stand at each offset that is asked for.
+//! different lengths, and may have all bytes of the shorter one in common. A long string at an offset
+//! of the table that is read is looked up by its bytes once: each of a million symbols may have it.
 
 ghost use Rattle.std.specs.Prelude.{◌≡◌, ◌<◌, [], true, length, IfOk, MatchResult};
 ghost use Rattle.bpf_elf.specs.Names.{is_closed, string_at as spec_string_at};
@@ -22,6 +22,9 @@ pub(crate) const TOO_LARGE: ObjectFault = ObjectFault {
     pos: 0,
     cause: ObjectCause::ResultTooLarge,
 };
+
+/// The bytes from which on a string is long.
+const LONG: usize = 4096;
 
 /// Appends a string with its NUL, and stores its offset. If memory runs out, nothing changes.
 fn push_text<'a, A: Allocator + Copy>(
@@ -58,10 +61,9 @@ pub(crate) struct Names<'a, A: Allocator> {
     bytes: Vec<u8, A>,
     /// The offsets by the lengths and bytes of strings.
     by_text: BTreeMap<(usize, &'a [u8]), u32, A>,
-    /// The table that is read, and for each offset in it that of its string, or 0 if that isn't
-    /// known.
+    /// The table that is read, and the offsets of long strings by those in it.
     source: &'a [u8],
-    known: Vec<u32, A>,
+    by_offset: BTreeMap<u32, u32, A>,
     /// How long the table may be, in bytes.
     limit: u32,
 }
@@ -73,7 +75,7 @@ impl<'a, A: Allocator> Model for Names<'a, A> {
 
     ghost view = { λ n. record { texts = strings_in n.bytes.items; source = n.source.now; limit = n.limit } };
 
-    ghost invariant = { λ n. IsStringTable n.bytes.items n.by_text n.source.now n.known.items n.limit };
+    ghost invariant = { λ n. IsStringTable n.bytes.items n.by_text n.source.now n.by_offset n.limit };
 }
 
 impl<'a, A: Allocator + Copy> Names<'a, A> {
@@ -83,12 +85,11 @@ impl<'a, A: Allocator + Copy> Names<'a, A> {
         ensures { IfOk result (λ n. n ≡ record { texts = []; source = source.now; limit = limit }) }
     {
         let bytes = vec![in alloc; 0; 1]?;
-        let known = vec![in alloc; 0; source.len()]?;
         Ok(Names {
             bytes,
             by_text: BTreeMap::new(alloc),
             source,
-            known,
+            by_offset: BTreeMap::new(alloc),
             limit,
         })
     }
@@ -120,35 +121,38 @@ impl<'a, A: Allocator + Copy> Names<'a, A> {
         ensures { let x = spec_string_at self.old.source off in
             MatchResult result (spec.Adds self.old self.new x) (spec.FailsToAdd self.old x) }
     {
-        let known = self.known[off as usize];
-        if known != 0 {
-            return Ok(known);
+        if let Some(offset) = self.by_offset.get(&off) {
+            return Ok(*offset);
         }
         let text = string_at(self.source, off as usize);
         let offset = self.text(text)?;
-        self.known[off as usize] = offset;
-        Ok(offset)
+        if text.len() < LONG {
+            return Ok(offset);
+        }
+        match self.by_offset.insert(off, offset) {
+            Ok(_) => Ok(offset),
+            Err(_) => Err(ObjectError::Memory),
+        }
     }
 
     /// Reads strings from another table from now on.
-    pub(crate) fn read_from(self, alloc: A, source: &'a [u8]) -> Result<Names<'a, A>, AllocError>
-        ensures { IfOk result (λ n. n ≡ record { texts = self.entry.texts; source = source.now; limit = self.entry.limit }) }
+    pub(crate) fn read_from(self, alloc: A, source: &'a [u8]) -> Names<'a, A>
+        ensures { result ≡ record { texts = self.entry.texts; source = source.now; limit = self.entry.limit } }
     {
         let Names {
             bytes,
             by_text,
             source: _,
-            known: _,
+            by_offset: _,
             limit,
         } = self;
-        let known = vec![in alloc; 0; source.len()]?;
-        Ok(Names {
+        Names {
             bytes,
             by_text,
             source,
-            known,
+            by_offset: BTreeMap::new(alloc),
             limit,
-        })
+        }
     }
 
     /// Returns the table, and frees the memory of all else.

@@ -198,7 +198,7 @@ fn write_tail<'a, A: Allocator + Copy>(
 {
     let symbols_name = names.text(b".symtab")?;
     let strings_name = names.text(b".strtab")?;
-    let mut names = names.read_from(alloc, elf.symbol_strings())?;
+    let mut names = names.read_from(alloc, elf.symbol_strings());
     let mut rows = Vec::new(alloc);
     push_symbols(&mut rows, &mut names, elf, before)?;
     let table = names.into_table();

@@ -38,7 +38,7 @@ returns-in_err-push_symbols g c ss h =
     let all = c.args.names.texts ++ last_names b in
     let more = ss ++ last_written b (c.args.symtab + 1) all in
     let extends = third_more c.args.names (codes ".symtab") (codes ".strtab") (symbol_names b (symbol_count b)) c.text.new.self c.in_ok-symbols_name.symbols_name c.in_ok-symbols_name.ensures
-    c.text-2.new.self c.in_ok-strings_name.strings_name c.in_ok-names.names.texts c.in_ok-strings_name.ensures (ap (λ (n : Strings). n.texts) c.in_ok-names.ensures) in
+    c.text-2.new.self c.in_ok-strings_name.strings_name c.read_from-names.result.texts c.in_ok-strings_name.ensures (ap (λ (n : Strings). n.texts) c.read_from-names.ensures) in
     failed_one c.from_residual-in_err-push_symbols.result _ (FailsToWrite (result_limit (length c.args.elf.now)) all more) _ c.from_residual-in_err-push_symbols.ensures.0 c.from_residual-in_err-push_symbols.ensures.1
     (λ e is. subst (FailsToWrite (result_limit (length c.args.elf.now)) all more) (sym is) (c.in_err-push_symbols.ensures all extends more))
 
@@ -52,13 +52,13 @@ returns g c ss h =
     let syms = symbol_names b (symbol_count b) in
     let one = c.in_ok-symbols_name.ensures in
     let two = c.in_ok-strings_name.ensures in
-    let texts = ap (λ (n : Strings). n.texts) c.in_ok-names.ensures in
-    let extends = third_more n0 a d syms c.text.new.self c.in_ok-symbols_name.symbols_name one c.text-2.new.self c.in_ok-strings_name.strings_name c.in_ok-names.names.texts two texts in
+    let texts = ap (λ (n : Strings). n.texts) c.read_from-names.ensures in
+    let extends = third_more n0 a d syms c.text.new.self c.in_ok-symbols_name.symbols_name one c.text-2.new.self c.in_ok-strings_name.strings_name c.read_from-names.result.texts two texts in
     let rows = c.in_ok-push_symbols.ensures all extends in
     let held : c.push_symbols.new.out.items ≡ symbols_first b (symbol_count b) (offset_of all) = rows.held ∙ ap (λ (l : List ℕ). l ++ symbols_first b (symbol_count b) (offset_of all)) c.new-rows.ensures.items in
     let place1 = offset_there n0 c.text.new.self a c.in_ok-symbols_name.symbols_name all one (first_more n0 a d syms) in
     let place2 = offset_there c.text.new.self c.text-2.new.self d c.in_ok-strings_name.strings_name all two (second_more n0 a d syms c.text.new.self c.in_ok-symbols_name.symbols_name one) in
-    let table = c.into_table-table.ensures.table ∙ ap table_of (sym c.into_table-table.ensures.own ∙ rows.texts ∙ three_same n0 a d syms c.text.new.self c.in_ok-symbols_name.symbols_name one c.text-2.new.self c.in_ok-strings_name.strings_name c.in_ok-names.names.texts two texts) in
+    let table = c.into_table-table.ensures.table ∙ ap table_of (sym c.into_table-table.ensures.own ∙ rows.texts ∙ three_same n0 a d syms c.text.new.self c.in_ok-symbols_name.symbols_name one c.text-2.new.self c.in_ok-strings_name.strings_name c.read_from-names.result.texts two texts) in
     let first : ℕ → List ℕ → ℕ → WrittenSection = λ o bytes i. own_section o SHT_SYMTAB bytes (c.args.symtab + 1) i 8 24 in
     let second : ℕ → List ℕ → WrittenSection = λ o bytes. own_section o SHT_STRTAB bytes 0 0 1 0 in
     let s = c.own_header-symbols.ensures ∙ ap (λ (o : ℕ). first o c.deref.result.now c.first_global-first.result) place1 ∙ ap (λ (l : List ℕ). first (offset_of all a) l c.first_global-first.result) (c.deref.ensures.value ∙ held) ∙ ap (first (offset_of all a) (symbols_first b (symbol_count b) (offset_of all))) c.first_global-first.ensures in

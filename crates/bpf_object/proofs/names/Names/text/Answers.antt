@@ -16,14 +16,14 @@ pub returns-then-is_empty : goal.returns-then-is_empty
 returns-then-is_empty g c =
     let s = c.self.inside in
     let x = c.args.text.now in
-    let it = stored_empty s.bytes.items s.source.now s.by_text s.known.items s.limit c.self.invariant x (eqb-true (length x) 0 (sym c.if-is_empty.ensures)) in
+    let it = stored_empty s.bytes.items s.source.now s.by_text s.by_offset s.limit c.self.invariant x (eqb-true (length x) 0 (sym c.if-is_empty.ensures)) in
     subst (λ (o : Strings). Adds o o x 0) c.self.view_is (record { texts = it.texts; source = refl; limit = refl; offset_is = it.offset_is })
 
 pub returns-in-Some : goal.returns-in-Some
 returns-in-Some g c =
     let s = c.self.inside in
     let x = c.args.text.now in
-    let it = stored_known s.bytes.items s.source.now s.by_text s.known.items s.limit c.self.invariant x c.in-Some.offset.now c.requires (some_text x c.if-is_empty.ensures) (sym c.in-Some.ensures.value) in
+    let it = stored_known s.bytes.items s.source.now s.by_text s.by_offset s.limit c.self.invariant x c.in-Some.offset.now c.requires (some_text x c.if-is_empty.ensures) (sym c.in-Some.ensures.value) in
     subst (λ (o : Strings). Adds o o x c.in-Some.offset.now) c.self.view_is (record { texts = it.texts; source = refl; limit = refl; offset_is = it.offset_is })
 
 pub returns-then-text-self : goal.returns-then-text-self
@@ -31,27 +31,27 @@ returns-then-text-self g c =
     let s = c.self.inside in
     let x = c.args.text.now in (
       subst (λ (o : Strings). o.limit < length (table_of (kept (o.texts ++ x ∷ [])))) c.self.view_is
-          (past_limit s.bytes.items s.source.now s.by_text s.known.items s.limit c.self.invariant x (some_text x c.if-is_empty.ensures) (sym c.in_default.ensures.value) (omega (arith, c.if-text-self.true, c.len-offset.ensures))),
+          (past_limit s.bytes.items s.source.now s.by_text s.by_offset s.limit c.self.invariant x (some_text x c.if-is_empty.ensures) (sym c.in_default.ensures.value) (omega (arith, c.if-text-self.true, c.len-offset.ensures))),
       record { pos = refl; cause = refl },
     )
 
 pub invariant_of-self : goal.invariant_of-self
 invariant_of-self g c =
     let s = c.self.inside in
-    unchanged s.bytes.items s.source.now s.by_text s.known.items s.limit c.self.invariant c.push_text.new.bytes.items c.push_text.new.by_text c.in_err-push_text.ensures.0 c.in_err-push_text.ensures.1
+    unchanged s.bytes.items s.source.now s.by_text s.by_offset s.limit c.self.invariant c.push_text.new.bytes.items c.push_text.new.by_text c.in_err-push_text.ensures.0 c.in_err-push_text.ensures.1
 
 pub invariant_of-self-2 : goal.invariant_of-self-2
 invariant_of-self-2 g c =
     let s = c.self.inside in
     let x = c.args.text.now in
-    (stored_new s.bytes.items s.source.now s.by_text s.known.items s.limit c.self.invariant x c.push_text.new.bytes.items c.push_text.new.by_text c.len-offset.result c.requires (some_text x c.if-is_empty.ensures)
+    (stored_new s.bytes.items s.source.now s.by_text s.by_offset s.limit c.self.invariant x c.push_text.new.bytes.items c.push_text.new.by_text c.len-offset.result c.requires (some_text x c.if-is_empty.ensures)
     (sym c.in_default.ensures.value) (omega (arith, c.if-text-self.false, c.len-offset.ensures)) (omega (arith, c.len-offset.ensures)) c.in_ok-push_text.ensures).table
 
 pub returns : goal.returns
 returns g c =
     let s = c.self.inside in
     let x = c.args.text.now in
-    let it = stored_new s.bytes.items s.source.now s.by_text s.known.items s.limit c.self.invariant x c.push_text.new.bytes.items c.push_text.new.by_text c.len-offset.result c.requires (some_text x c.if-is_empty.ensures)
+    let it = stored_new s.bytes.items s.source.now s.by_text s.by_offset s.limit c.self.invariant x c.push_text.new.bytes.items c.push_text.new.by_text c.len-offset.result c.requires (some_text x c.if-is_empty.ensures)
     (sym c.in_default.ensures.value) (omega (arith, c.if-text-self.false, c.len-offset.ensures)) (omega (arith, c.len-offset.ensures)) c.in_ok-push_text.ensures in
     subst (λ (o : Strings). Adds o (record { texts = strings_in c.push_text.new.bytes.items; source = s.source.now; limit = s.limit }) x c.len-offset.result) c.self.view_is
     (record { texts = it.texts; source = refl; limit = refl; offset_is = it.offset_is })
