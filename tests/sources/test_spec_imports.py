@@ -31,3 +31,11 @@ def test_definitions(file):
 @pytest.mark.parametrize("text", IMPORTS)
 def test_import(text):
     assert NAMED.search(text)
+
+
+@pytest.mark.parametrize("file", sorted(TOP.glob("crates/*/specs/**/private/*.antt")), ids=lambda file: str(file.relative_to(TOP)))
+def test_private(file):
+    """What only private contracts rest on stands in a folder `private`, so a public definition imports nothing from there."""
+    name = re.compile(rf"\bprivate\.{file.stem}\b")
+    others = (it for it in TOP.glob("crates/*/specs/**/*.antt") if "private" not in it.parts)
+    assert [it for it in others if name.search(it.read_text())] == []

@@ -19,7 +19,7 @@ use Rattle.bpf_object.specs.declared.{extension.Part.Part, source.Source.Source}
 use Rattle.bpf_object.specs.declared.extension.Part.TheVariants.{Functions, Lines, Relocations}
 use Rattle.bpf_object.specs.declared.fault.{ObjectError.ObjectError}
 use Rattle.bpf_object.specs.declared.fault.ObjectError.TheVariants as errors
-use Rattle.bpf_object.specs.AcceptedFacts.{IsAccepted, HasStringTable}
+use Rattle.bpf_object.specs.private.AcceptedFacts.{IsAccepted, HasStringTable}
 use Rattle.bpf_object.specs.Denotes.{Denotes, HoldsTypes, TypesAre, types_at, types_of, extension_at, extension_of}
 use Rattle.bpf_object.specs.Extension.{Section, part_end, part_len, part_offset, next_group, group_count, groups, head_rules, form_rules, group_rules, groups_rules, part_rules}
 use Rattle.bpf_object.specs.Lines.{pairs_rules, accesses_rules, extension_rules}

@@ -7,7 +7,7 @@ use Rattle.std.proofs.lemmas.Bool.Decides.{nat_tests}
 use Rattle.std.proofs.lemmas.List.Elements.{All-head, All-tail}
 use Rattle.bpf_object.specs.declared.{extension.Part.Part, source.Source.Source}
 use Rattle.bpf_object.specs.Extension.{Section, part_len, part_start, part_end, next_group, groups_from, groups}
-use Rattle.bpf_object.specs.Cursors.{rest_of}
+use Rattle.bpf_object.specs.private.Cursors.{rest_of}
 use Rattle.bpf_object.specs.Sources.{section, HasGroup}
 
 -- ---- the groups don't depend on a number that is at least theirs

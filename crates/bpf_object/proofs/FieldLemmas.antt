@@ -6,7 +6,7 @@ use Rattle.bpf_words.specs.declared.Order.{Order}
 use Rattle.bpf_words.proofs.WordLemmas.{length-word16, length-word32}
 use Rattle.bpf_object.specs.declared.fields.Field.{Field}
 use Rattle.bpf_object.specs.declared.fields.Field.TheVariants.{Byte, Half, Word, Long}
-use Rattle.bpf_object.specs.Fields.{width, bytes, encode, FitsWidth, FitWidths, ReadsAt, Read}
+use Rattle.bpf_object.specs.private.Fields.{width, bytes, encode, FitsWidth, FitWidths, ReadsAt, Read}
 use Rattle.bpf_object.proofs.ReadBackWords.{HasBytes, has_at, has_first, has_rest, length-word64, read_16, read_32, read_64, read_byte}
 
 -- ---- the numbers of a list with one more

@@ -3,10 +3,10 @@ use Rattle.std.proofs.Common.{◌≡◌, ℕ, zero, suc, ◌+◌, ◌≤◌, Lis
 use Rattle.std.specs.Prelude.{slice_index_or}
 use Rattle.std.proofs.lemmas.List.{take_more, take_all}
 use Rattle.bpf_words.specs.declared.Order.{Order}
-use Rattle.bpf_object.specs.Fields.{encode}
+use Rattle.bpf_object.specs.private.Fields.{encode}
 use Rattle.bpf_object.specs.File as old
 use Rattle.bpf_object.specs.File.{WrittenSection, ident, file_type, file_table, section_header, content_offset, no_section}
-use Rattle.bpf_object.specs.FileOf.{header_fields, section_fields, padded, contents, headers, file_of}
+use Rattle.bpf_object.specs.private.FileOf.{header_fields, section_fields, padded, contents, headers, file_of}
 use Rattle.bpf_object.proofs.FileWriterLemmas.{contents_push, headers_push}
 
 header_same : (o : Order) (flags table count : ℕ) → file_type o ++ file_table o flags table count ≡ encode o (header_fields flags table count)

@@ -3,10 +3,10 @@ use Rattle.std.proofs.Common.{◌≡◌, ℕ, ◌+◌, ◌*◌, ◌<◌, ◌≤�
 use Rattle.std.proofs.lemmas.Bool.Decides.{nat_tests}
 use Rattle.std.proofs.lemmas.List.{drop_at, Concat.flat_map-append}
 use Rattle.bpf_words.specs.declared.Order.{Order, TheVariants.Little, TheVariants.Big}
-use Rattle.bpf_object.specs.Fields.{encode}
+use Rattle.bpf_object.specs.private.Fields.{encode}
 use Rattle.bpf_object.specs.File.{WrittenSection, ident}
-use Rattle.bpf_object.specs.FileOf.{header_fields, section_fields, padded, contents, headers, file_of, is_small_file}
-use Rattle.bpf_object.specs.FileWriter.{FileSoFar, Holds}
+use Rattle.bpf_object.specs.private.FileOf.{header_fields, section_fields, padded, contents, headers, file_of, is_small_file}
+use Rattle.bpf_object.specs.private.FileWriter.{FileSoFar, Holds}
 
 pub contents_push : (ss : List WrittenSection) (s : WrittenSection) → contents (ss ++ s ∷ []) ≡ contents ss ++ padded s.content
 contents_push ss s = flat_map-append (λ (t : WrittenSection). padded t.content) ss (s ∷ []) ∙ ap (λ (t : List ℕ). contents ss ++ t) (append-nil (padded s.content))

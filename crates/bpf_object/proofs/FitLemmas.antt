@@ -17,10 +17,10 @@ use Rattle.bpf_object.specs.Denotes.{object_types, btf_fits}
 use Rattle.bpf_object.specs.Extension.{Section, groups}
 use Rattle.bpf_object.specs.Groups.{function_group, relocation_group}
 use Rattle.bpf_object.specs.Objects.{ObjectTypes}
-use Rattle.bpf_object.specs.NotedStrings.{HasStrings, text_offset}
+use Rattle.bpf_object.specs.private.NotedStrings.{HasStrings, text_offset}
 use Rattle.bpf_object.specs.Sources.{section}
-use Rattle.bpf_object.specs.WrittenGroups.{group_offsets, groups_offsets, written_extension}
-use Rattle.bpf_object.specs.WrittenTypes.{both_offsets, both_names, written_btf, AreTooLong, AreWritten}
+use Rattle.bpf_object.specs.private.WrittenGroups.{group_offsets, groups_offsets, written_extension}
+use Rattle.bpf_object.specs.private.WrittenTypes.{both_offsets, both_names, written_btf, AreTooLong, AreWritten}
 use Rattle.bpf_object.proofs.ReadBackTests.{most_test}
 use Rattle.bpf_object.proofs.OffsetLemmas.{placed_is, btf_is}
 use Rattle.bpf_object.proofs.WrittenExtension.{extension_is}

@@ -2,7 +2,7 @@
 use Rattle.std.proofs.Common.{◌≡◌, ℕ, Option, Some, None, List, [], ◌∷◌, ◌++◌, append_assoc, append-nil, ◌∙◌, ap, sym}
 use Rattle.bpf_object.specs.declared.extension.Part.{Part}
 use Rattle.bpf_object.specs.Extension.{Section}
-use Rattle.bpf_object.specs.Cursors.{rest_of}
+use Rattle.bpf_object.specs.private.Cursors.{rest_of}
 
 -- one group more has been found
 pub more_found : (s : Section) (p : Part) (found new all : List ℕ) (o : Option ℕ) (g : ℕ) (next : Option ℕ) → o ≡ Some g

@@ -15,10 +15,10 @@ use Rattle.bpf_object.specs.Extension.{Section, groups, group_name, group_count,
 use Rattle.bpf_object.specs.Groups.{access_off}
 use Rattle.bpf_object.specs.Kept.{listed}
 use Rattle.bpf_object.specs.Lines.{access_rules, accesses_rules}
-use Rattle.bpf_object.specs.NotedStrings.{AreInside, IsChecked}
-use Rattle.bpf_object.specs.WrittenTypes.{IsRead, AreGroups}
+use Rattle.bpf_object.specs.private.NotedStrings.{AreInside, IsChecked}
+use Rattle.bpf_object.specs.private.WrittenTypes.{IsRead, AreGroups}
 use Rattle.bpf_object.specs.Sources.{section, HasGroup}
-use Rattle.bpf_object.specs.WrittenGroups.{record_offsets}
+use Rattle.bpf_object.specs.private.WrittenGroups.{record_offsets}
 use Rattle.bpf_object.proofs.WrittenStrings.{each_listed}
 use Rattle.bpf_object.proofs.KeptLemmas.{all, length-all, get-all}
 

@@ -7,9 +7,9 @@ use Rattle.std.proofs.lemmas.List.{get_or_append_left, Concat.flat_map-append}
 use Rattle.bpf_object.specs.{Kept.listed, Kept.number_of, Kept.numbers, Kept.kept_relocation, Kept.kept_symbol, Kept.symbol_number, Kept.symbol_section, Kept.is_kept_section, Objects.KeptRelocation}
 use Rattle.bpf_elf.specs.Relocations.{r_offset, r_symbol, r_type}
 use Rattle.bpf_words.specs.declared.Order.{Order}
-use Rattle.bpf_object.specs.{Canonical.row_bytes, Canonical.symbol_bytes, Tables.rows_bytes}
+use Rattle.bpf_object.specs.{Canonical.row_bytes, Canonical.symbol_bytes, private.Tables.rows_bytes}
 use Rattle.bpf_elf.specs.{Numbers.order_of, Symbols.is_kept_symbol, Symbols.is_local, Symbols.symbol_name, Symbols.st_other, Symbols.st_shndx, Symbols.st_value, Symbols.st_size, Symbols.is_special, Symbols.st_info}
-use Rattle.bpf_object.specs.SymbolRows.{globals_from, symbol_row}
+use Rattle.bpf_object.specs.private.SymbolRows.{globals_from, symbol_row}
 use Rattle.std.specs.Prelude.{slice_index}
 
 one_more : (x : Bool) (a n : ℕ) → a ≤ n → cond x (suc a) a ≤ suc n

@@ -16,7 +16,7 @@ use Rattle.bpf_canon.proofs.BtfLemmas.Names.KeptSteps.{Has_cases, kept_empty, ke
 use Rattle.bpf_canon.proofs.BtfLemmas.Names.{Gathering.Has-front, Gathering.Has-back, HostSteps.kept_again, HostTable.offset_stays_all}
 use Rattle.bpf_canon.proofs.BtfLemmas.Strings.{PlacedHosts.has_push, DistinctSteps.adds_empty, DistinctSteps.adds_known, DistinctSteps.adds_none, DistinctSteps.adds_new}
 use Rattle.bpf_object.proofs.ReadBackStrings.{string_is_text}
-use Rattle.bpf_object.specs.Names.{Strings, cut_from, strings_in, KnowsOffsets, IsStringTable, PushesText, Adds, Extends}
+use Rattle.bpf_object.specs.private.Names.{Strings, cut_from, strings_in, KnowsOffsets, IsStringTable, PushesText, Adds, Extends}
 
 -- ---- the strings of a table
 

@@ -12,13 +12,13 @@ use Rattle.bpf_object.specs.declared.fault.{ObjectError.ObjectError, ObjectFault
 use Rattle.bpf_object.specs.declared.fault.ObjectError.TheVariants as errors
 use Rattle.bpf_object.specs.Canonical.{btf_bytes, canonical}
 use Rattle.bpf_object.specs.Denotes.{Denotes, HoldsTypes, TypesAre, types_at, types_of, extension_at, rules_of_extension, object_types, object_of, extension_of, btf_fits, types_fit, result_limit, is_small, IsCanonicalFile}
-use Rattle.bpf_object.specs.ObjectWriter.{AreContents, fits}
-use Rattle.bpf_object.specs.Written.{btf_content, extension_content}
+use Rattle.bpf_object.specs.private.ObjectWriter.{AreContents, fits}
+use Rattle.bpf_object.specs.private.Written.{btf_content, extension_content}
 use Rattle.bpf_object.specs.{Extension.Section, Faults.IsFirstFault, Faults.ObjectRule, Lines.extension_rules}
 use Rattle.bpf_object.specs.ObjectFaults.{IsFault, of_elf, without_types, of_types, of_extension, of_result, IsWithoutTypesFault, IsFaultOfTypes, IsFaultOfExtension, IsFaultOfResult, IsTooLarge, Fails, FailsToFit}
 use Rattle.bpf_object.specs.Objects.{ObjectTypes, Object}
 use Rattle.bpf_object.specs.declared.source.Source.{Source}
-use Rattle.bpf_object.specs.{NotedStrings.IsChecked, Sources.section, WrittenTypes.IsRead, WrittenTypes.AreTooLong}
+use Rattle.bpf_object.specs.{private.NotedStrings.IsChecked, Sources.section, private.WrittenTypes.IsRead, private.WrittenTypes.AreTooLong}
 use Rattle.bpf_object.specs.Types.{TypesSection}
 use Rattle.bpf_object.specs.TypesFaults.{KeepsTypes, IsTypesFault, FailsTypes, of_size, of_btf, of_rules}
 use Rattle.bpf_object.proofs.DenotesOne.{words_one, types_one, denotes_one}

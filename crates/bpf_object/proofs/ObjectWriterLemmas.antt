@@ -16,10 +16,10 @@ use Rattle.bpf_object.specs.Kept.{listed, is_kept_section, kept_section, kept_sy
 use Rattle.bpf_object.specs.Objects.{KeptSection, KeptSymbol}
 use Rattle.bpf_elf.specs.{Numbers.order_of, Sections.name, Symbols.is_kept_symbol, Symbols.symbol_name}
 use Rattle.bpf_object.specs.File.{WrittenSection}
-use Rattle.bpf_object.specs.FileOf.{is_small_file, contents, padded}
-use Rattle.bpf_object.specs.FileWriter.{FileSoFar, Holds, FailsToHold}
-use Rattle.bpf_object.specs.Names.{Strings, Adds, FailsToAdd, Extends}
-use Rattle.bpf_object.specs.ObjectWriter.{FailsToWrite, HasWritten, Writes, name_if, written_if, section_names, written_first, HasRows, WritesRows, symbol_name_if, symbol_if, symbol_names, symbols_first}
+use Rattle.bpf_object.specs.private.FileOf.{is_small_file, contents, padded}
+use Rattle.bpf_object.specs.private.FileWriter.{FileSoFar, Holds, FailsToHold}
+use Rattle.bpf_object.specs.private.Names.{Strings, Adds, FailsToAdd, Extends}
+use Rattle.bpf_object.specs.private.ObjectWriter.{FailsToWrite, HasWritten, Writes, name_if, written_if, section_names, written_first, HasRows, WritesRows, symbol_name_if, symbol_if, symbol_names, symbols_first}
 use Rattle.bpf_object.proofs.NamesLemmas.{extends_less, added_later}
 
 -- ---- lists of strings

@@ -16,9 +16,9 @@ use Rattle.bpf_object.specs.Extension.{Section, group_count, group_name, groups}
 use Rattle.bpf_object.specs.Groups.{access_off, relocation_at, function_group, relocation_group, function_groups}
 use Rattle.bpf_object.specs.Kept.{listed}
 use Rattle.bpf_object.specs.Lines.{name_of}
-use Rattle.bpf_object.specs.NotedStrings.{text_offset}
-use Rattle.bpf_object.specs.WrittenGroups.{groups_offsets, group_offsets}
-use Rattle.bpf_object.specs.WrittenTypes.{both_offsets, both_names, written_btf}
+use Rattle.bpf_object.specs.private.NotedStrings.{text_offset}
+use Rattle.bpf_object.specs.private.WrittenGroups.{groups_offsets, group_offsets}
+use Rattle.bpf_object.specs.private.WrittenTypes.{both_offsets, both_names, written_btf}
 use Rattle.bpf_object.proofs.KeptLemmas.{all}
 use Rattle.bpf_object.proofs.ReadBackStrings.{string_is_text}
 

@@ -4,7 +4,7 @@ use Rattle.std.specs.Prelude.{MatchOption}
 use Rattle.std.proofs.lemmas.Option.{slice_get-get_or}
 use Rattle.btf_types.proofs.TableLemmas.WindowSteps.{window_first, window_length, window_empty, window_whole}
 use Rattle.bpf_object.specs.declared.{extension.Part.Part, section_groups.SectionGroup.SectionGroup}
-use Rattle.bpf_object.specs.AcceptedFacts.{IsGroupIn}
+use Rattle.bpf_object.specs.private.AcceptedFacts.{IsGroupIn}
 use Rattle.bpf_object.specs.Extension.{Section, group_count}
 use Rattle.bpf_object.specs.SectionRecords.{IsLeft, all_of, group_records, left_of, section_records}
 use Rattle.bpf_object.specs.SourceLines.{extension, group_in}

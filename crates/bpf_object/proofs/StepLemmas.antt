@@ -9,7 +9,7 @@ use Rattle.bpf_object.specs.declared.extension.Part.TheVariants.{Functions, Line
 use Rattle.bpf_object.specs.Faults.{ObjectRule, Checks}
 use Rattle.bpf_object.specs.Extension.{Section, part_end, group_count}
 use Rattle.bpf_object.specs.Lines.{is_pair, pairs_rules, access_rules, accesses_rules}
-use Rattle.bpf_object.specs.Cursors.{rest_of}
+use Rattle.bpf_object.specs.private.Cursors.{rest_of}
 use Rattle.bpf_object.proofs.GroupLemmas.{later}
 
 -- rules with the same first fault are checked alike

@@ -6,7 +6,7 @@ use Rattle.bpf_elf.specs.{Sections.content, Sections.name, Kinds.SHT_REL}
 use Rattle.bpf_object.specs.{Canonical.row_bytes, Canonical.written_section, File.WrittenSection, Objects.KeptRelocation}
 use Rattle.bpf_object.specs.Kept.{is_table, is_kept_section, kept_section, kept_sections, number_of, table_rows}
 use Rattle.bpf_words.specs.declared.Order.{Order}
-use Rattle.bpf_object.specs.Tables.{kept_content}
+use Rattle.bpf_object.specs.private.Tables.{kept_content}
 use Rattle.bpf_object.proofs.{KeptLemmas.number_next, CanonLists.length-listed}
 
 content_by : (o : Order) (x : Bool) (content : List ℕ) (rows : List KeptRelocation)

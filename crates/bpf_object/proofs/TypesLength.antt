@@ -13,8 +13,8 @@ use Rattle.bpf_canon.specs.btf.CanonicalBtf.{words_of_item, record_words}
 use Rattle.bpf_canon.proofs.BtfLemmas.Write.SectionFiles.{types_same}
 use Rattle.bpf_canon.specs.btf.strings.{NamesByOffset.NamesByOffset, NamesByOffset.texts_by_offset, DistinctNames.distinct_table}
 use Rattle.bpf_object.specs.Canonical.{types_bytes}
-use Rattle.bpf_object.specs.NotedStrings.{text_offset}
-use Rattle.bpf_object.specs.WrittenTypes.{written_btf}
+use Rattle.bpf_object.specs.private.NotedStrings.{text_offset}
+use Rattle.bpf_object.specs.private.WrittenTypes.{written_btf}
 
 module _ (p q : List ℕ → ℕ) where
   item_length : (i : TypeItem) → length (words_of_item p i) ≡ length (words_of_item q i)

@@ -14,7 +14,7 @@ use Rattle.bpf_object.specs.Groups.{function_at, relocation_at}
 use Rattle.bpf_object.specs.Kept.{listed}
 use Rattle.bpf_object.specs.Lines.{name_of}
 use Rattle.bpf_object.specs.Objects.{Group}
-use Rattle.bpf_object.specs.WrittenGroups.{record_bytes, records_bytes, group_bytes_at, groups_bytes, written_part, written_extension}
+use Rattle.bpf_object.specs.private.WrittenGroups.{record_bytes, records_bytes, group_bytes_at, groups_bytes, written_part, written_extension}
 use Rattle.bpf_object.proofs.KeptLemmas.{all, length-all}
 
 -- the header has 32 bytes

@@ -13,17 +13,17 @@ use Rattle.bpf_object.specs.declared.fault.ObjectError.{ObjectError}
 use Rattle.bpf_object.specs.declared.fault.ObjectError.TheVariants as errors
 use Rattle.bpf_object.specs.Canonical.{strings_of, offset_of, types_strings, file_strings, first_global, has_extension, symbol_bytes, written_section, own_section, btf_bytes, extension_bytes, types_names, symtab_number, types_sections, last_sections, written_sections, canonical}
 use Rattle.bpf_object.specs.Denotes.{object_of, result_limit}
-use Rattle.bpf_object.specs.Fields.{encode}
+use Rattle.bpf_object.specs.private.Fields.{encode}
 use Rattle.bpf_object.specs.File.{WrittenSection, ident, padding}
-use Rattle.bpf_object.specs.FileOf.{header_fields, padded, contents, headers, file_of, is_small_file}
-use Rattle.bpf_object.specs.FileWriter.{FileSoFar, Holds, IsFileOf}
+use Rattle.bpf_object.specs.private.FileOf.{header_fields, padded, contents, headers, file_of, is_small_file}
+use Rattle.bpf_object.specs.private.FileWriter.{FileSoFar, Holds, IsFileOf}
 use Rattle.bpf_object.specs.Kept.{listed, number_of, is_kept_section, kept_section, kept_sections, kept_symbol, kept_symbols}
-use Rattle.bpf_object.specs.Names.{Strings, Extends}
+use Rattle.bpf_object.specs.private.Names.{Strings, Extends}
 use Rattle.bpf_object.specs.ObjectFaults.{FailsToFit}
 use Rattle.bpf_object.specs.Objects.{KeptSymbol, Object, ObjectTypes}
-use Rattle.bpf_object.specs.ObjectWriter.{FailsToWrite, HasWritten, names_with, both_with, symtab_of, first_names, first_written, symbols_first, last_names, last_written, AreContents, fits}
-use Rattle.bpf_object.specs.SymbolRows.{globals_from}
-use Rattle.bpf_object.specs.Written.{btf_content, extension_content}
+use Rattle.bpf_object.specs.private.ObjectWriter.{FailsToWrite, HasWritten, names_with, both_with, symtab_of, first_names, first_written, symbols_first, last_names, last_written, AreContents, fits}
+use Rattle.bpf_object.specs.private.SymbolRows.{globals_from}
+use Rattle.bpf_object.specs.private.Written.{btf_content, extension_content}
 use Rattle.bpf_object.proofs.{CanonLists.length-listed, CanonRules.few_sections, KeptLemmas.number_below}
 use Rattle.bpf_object.proofs.FileOfLemmas.{file_same}
 use Rattle.bpf_object.proofs.FileWriterLemmas.{length-headers, length-header_fields}

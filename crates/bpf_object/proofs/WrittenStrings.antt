@@ -10,9 +10,9 @@ use Rattle.bpf_object.specs.declared.extension.Part.TheVariants.{Relocations}
 use Rattle.bpf_object.specs.Extension.{Section, group_name, group_count}
 use Rattle.bpf_object.specs.Groups.{access_off}
 use Rattle.bpf_object.specs.Kept.{listed}
-use Rattle.bpf_object.specs.NotedStrings.{text_offset, HasStrings}
+use Rattle.bpf_object.specs.private.NotedStrings.{text_offset, HasStrings}
 use Rattle.bpf_object.specs.Sources.{section}
-use Rattle.bpf_object.specs.WrittenGroups.{record_offsets, record_bytes, records_bytes}
+use Rattle.bpf_object.specs.private.WrittenGroups.{record_offsets, record_bytes, records_bytes}
 use Rattle.bpf_object.proofs.KeptLemmas.{all, length-all, get-all}
 use Rattle.bpf_object.proofs.ReadBackStrings.{string_is_text}
 

@@ -5,7 +5,7 @@ ghost use Rattle.std.specs.Prelude.{◌≡◌, true, None, IfOk, IfErr, MatchOpt
 ghost use Rattle.bpf_words.specs.Words.{word32_at};
 ghost use Rattle.btf_raw.specs.Header.{part, strings_at};
 ghost use Rattle.bpf_elf.specs.Names.{is_closed};
-ghost use Rattle.bpf_object.specs.AcceptedFacts.{IsAccepted, HasStringTable, IsGroupIn};
+ghost use Rattle.bpf_object.specs.private.AcceptedFacts.{IsAccepted, HasStringTable, IsGroupIn};
 ghost use Rattle.bpf_object.specs.Denotes.{Denotes, extension_at};
 ghost use Rattle.bpf_object.specs.ObjectFaults.{Fails};
 ghost use Rattle.bpf_object.specs.Objects.{Object};
@@ -35,7 +35,7 @@ pub struct AcceptedObject<'a> {
 
 impl<'a> Model for AcceptedObject<'a> {
     ghost use Rattle.std.specs.Prelude.{ℕ, List};
-    ghost use Rattle.bpf_object.specs.AcceptedFacts.{IsAccepted};
+    ghost use Rattle.bpf_object.specs.private.AcceptedFacts.{IsAccepted};
 
     ghost Value = { List ℕ };
 

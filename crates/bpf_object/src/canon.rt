@@ -20,8 +20,8 @@ ghost use Rattle.bpf_object.specs.ObjectFaults.{Fails};
 ghost use Rattle.bpf_object.specs.Objects.{Object};
 ghost use Rattle.bpf_object.specs.Sources.{section, IsSource};
 ghost use Rattle.bpf_object.specs.TypesFaults.{KeepsTypes, FailsTypes};
-ghost use Rattle.bpf_object.specs.WrittenTypes.{IsRead};
-ghost use Rattle.bpf_object.specs.Written.{content_of, items_of};
+ghost use Rattle.bpf_object.specs.private.WrittenTypes.{IsRead};
+ghost use Rattle.bpf_object.specs.private.Written.{content_of, items_of};
 
 use crate::extension::check_source;
 use crate::fault::{ObjectCause, ObjectError, ObjectFault, require};

@@ -2,7 +2,7 @@
 
 ghost use Rattle.std.specs.Prelude.{◌≡◌, ◌∷◌, Some};
 ghost use Rattle.bpf_object.specs.Extension as spec;
-ghost use Rattle.bpf_object.specs.Cursors.{rest_of};
+ghost use Rattle.bpf_object.specs.private.Cursors.{rest_of};
 ghost use Rattle.bpf_object.specs.Sources.{section, HasPart, HasGroup};
 
 use crate::extension::Part;

@@ -7,7 +7,7 @@ ghost use Rattle.bpf_object.specs.declared.extension.Part.TheVariants.{Functions
 ghost use Rattle.bpf_object.specs.Faults.{Checks, IsFirstFault};
 ghost use Rattle.bpf_object.specs.Extension.{head_rules, form_rules, part_rules, groups};
 ghost use Rattle.bpf_object.specs.Lines.{pairs_rules, accesses_rules, extension_rules};
-ghost use Rattle.bpf_object.specs.NotedStrings.{IsChecked};
+ghost use Rattle.bpf_object.specs.private.NotedStrings.{IsChecked};
 ghost use Rattle.bpf_object.specs.Sources.{
   section,
   IsSource,

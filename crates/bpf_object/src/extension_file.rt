@@ -5,9 +5,9 @@ ghost use Rattle.std.specs.List.{All};
 ghost use Rattle.bpf_elf.specs.Header.{FILE_LIMIT as spec_limit};
 ghost use Rattle.bpf_object.specs.declared.extension.Part.TheVariants.{Functions, Relocations};
 ghost use Rattle.bpf_object.specs.Canonical.{extension_of as spec_extension, extension_header};
-ghost use Rattle.bpf_object.specs.NotedStrings.{HasStrings, text_offset};
+ghost use Rattle.bpf_object.specs.private.NotedStrings.{HasStrings, text_offset};
 ghost use Rattle.bpf_object.specs.Sources.{section, HasGroup};
-ghost use Rattle.bpf_object.specs.WrittenGroups as spec;
+ghost use Rattle.bpf_object.specs.private.WrittenGroups as spec;
 
 use crate::extension::Part;
 use crate::extension_writer::push_part;

@@ -7,9 +7,9 @@ ghost use Rattle.bpf_canon.specs.btf.strings.FirstUses.{noted, noted_all};
 ghost use Rattle.bpf_object.specs.declared.extension.Part.TheVariants.{Relocations};
 ghost use Rattle.bpf_object.specs.Extension.{group_name, group_count as spec_count};
 ghost use Rattle.bpf_object.specs.Groups.{access_off as spec_access};
-ghost use Rattle.bpf_object.specs.NotedStrings.{AreInside};
+ghost use Rattle.bpf_object.specs.private.NotedStrings.{AreInside};
 ghost use Rattle.bpf_object.specs.Sources.{section, HasGroup};
-ghost use Rattle.bpf_object.specs.WrittenGroups as spec;
+ghost use Rattle.bpf_object.specs.private.WrittenGroups as spec;
 
 use crate::extension::Part;
 use crate::source::{Source, access_off, group_count, word};

@@ -7,9 +7,9 @@ ghost use Rattle.bpf_object.specs.Extension.{group_count as spec_count};
 ghost use Rattle.bpf_object.specs.declared.extension.Part.TheVariants.{Relocations};
 ghost use Rattle.bpf_object.specs.Groups.{relocation_at};
 ghost use Rattle.bpf_object.specs.Lines.{name_of};
-ghost use Rattle.bpf_object.specs.NotedStrings.{HasStrings, text_offset};
+ghost use Rattle.bpf_object.specs.private.NotedStrings.{HasStrings, text_offset};
 ghost use Rattle.bpf_object.specs.Sources.{section, HasGroup};
-ghost use Rattle.bpf_object.specs.WrittenGroups as spec;
+ghost use Rattle.bpf_object.specs.private.WrittenGroups as spec;
 
 use crate::extension::Part;
 use crate::source::{Source, access_off, group_count, record_size, records_len, word};

@@ -1,7 +1,7 @@
 //! Numbers one after another, as the rows of ELF tables have them.
 
 ghost use Rattle.std.specs.Prelude.{◌≡◌, ◌++◌, OnOk};
-ghost use Rattle.bpf_object.specs.Fields as spec;
+ghost use Rattle.bpf_object.specs.private.Fields as spec;
 ghost use Rattle.bpf_object.specs.File.{word64};
 
 use bpf_words::{Order, push16, push32};

@@ -3,10 +3,10 @@
 
 ghost use Rattle.std.specs.Prelude.{◌≡◌, ℕ, ◌+◌, ◌<◌, ◌≤◌, ◌^◌, ◌++◌, [], ◌∷◌, List, length, drop, IfOk, OnOk, MatchResult};
 ghost use Rattle.bpf_elf.specs.Header.{FILE_LIMIT as spec_limit};
-ghost use Rattle.bpf_object.specs.Fields.{encode};
+ghost use Rattle.bpf_object.specs.private.Fields.{encode};
 ghost use Rattle.bpf_object.specs.File.{WrittenSection, ident, padding};
-ghost use Rattle.bpf_object.specs.FileOf as spec;
-ghost use Rattle.bpf_object.specs.FileWriter.{Holds, FailsToHold, IsFileOf, section_of};
+ghost use Rattle.bpf_object.specs.private.FileOf as spec;
+ghost use Rattle.bpf_object.specs.private.FileWriter.{Holds, FailsToHold, IsFileOf, section_of};
 
 use crate::fault::ObjectError;
 use crate::fields::Field::{Byte, Half, Long, Word};
@@ -33,7 +33,7 @@ pub(crate) struct FileWriter<A: Allocator> {
 }
 
 impl<A: Allocator> Model for FileWriter<A> {
-    ghost use Rattle.bpf_object.specs.FileWriter.{FileSoFar, HasRoom};
+    ghost use Rattle.bpf_object.specs.private.FileWriter.{FileSoFar, HasRoom};
 
     ghost Value = { FileSoFar };
 

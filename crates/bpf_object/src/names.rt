@@ -9,7 +9,7 @@ ghost use Rattle.std.specs.Prelude.{◌≡◌, ◌<◌, [], true, length, IfOk, 
 ghost use Rattle.bpf_elf.specs.Names.{is_closed, string_at as spec_string_at};
 ghost use Rattle.btf_raw.specs.Names.{IsWithoutNul};
 ghost use Rattle.btf_types.specs.Names.{kept, table_of};
-ghost use Rattle.bpf_object.specs.Names as spec;
+ghost use Rattle.bpf_object.specs.private.Names as spec;
 
 use crate::fault::{ObjectCause, ObjectError, ObjectFault};
 use bpf_elf::string_at;
@@ -69,7 +69,7 @@ pub(crate) struct Names<'a, A: Allocator> {
 }
 
 impl<'a, A: Allocator> Model for Names<'a, A> {
-    ghost use Rattle.bpf_object.specs.Names.{Strings, IsStringTable, strings_in};
+    ghost use Rattle.bpf_object.specs.private.Names.{Strings, IsStringTable, strings_in};
 
     ghost Value = { Strings };
 

@@ -10,12 +10,12 @@ ghost use Rattle.btf_raw.specs.Names.{IsWithoutNul};
 ghost use Rattle.bpf_object.specs.Canonical.{canonical, own_section};
 ghost use Rattle.bpf_object.specs.Denotes.{object_of, result_limit as spec_result_limit};
 ghost use Rattle.bpf_object.specs.File.{WrittenSection};
-ghost use Rattle.bpf_object.specs.FileWriter.{Holds, FailsToHold, IsFileOf, section_of};
+ghost use Rattle.bpf_object.specs.private.FileWriter.{Holds, FailsToHold, IsFileOf, section_of};
 ghost use Rattle.bpf_object.specs.Kept.{is_kept_section, kept_sections, numbers};
 ghost use Rattle.bpf_object.specs.ObjectFaults.{FailsToFit};
 ghost use Rattle.bpf_object.specs.Objects.{ObjectTypes};
-ghost use Rattle.bpf_object.specs.ObjectWriter as spec;
-ghost use Rattle.bpf_object.specs.Written.{content_of};
+ghost use Rattle.bpf_object.specs.private.ObjectWriter as spec;
+ghost use Rattle.bpf_object.specs.private.Written.{content_of};
 
 use crate::fault::ObjectError;
 use crate::file_writer::FileWriter;

@@ -7,7 +7,7 @@ ghost use Rattle.bpf_elf.specs.Symbols.{is_kept_symbol, symbol_count};
 ghost use Rattle.bpf_elf.specs.Relocations.{relocation_count};
 ghost use Rattle.bpf_object.specs.Canonical.{row_bytes};
 ghost use Rattle.bpf_object.specs.Kept.{is_table, kept_relocation, numbers as spec_numbers};
-ghost use Rattle.bpf_object.specs.Tables as spec;
+ghost use Rattle.bpf_object.specs.private.Tables as spec;
 
 use crate::fields::push64;
 use bpf_elf::{Elf, Relocation};

@@ -9,10 +9,10 @@ ghost use Rattle.bpf_elf.specs.Symbols.{is_kept_symbol, symbol_count};
 ghost use Rattle.bpf_object.specs.Canonical.{written_section};
 ghost use Rattle.bpf_object.specs.Denotes.{result_limit};
 ghost use Rattle.bpf_object.specs.File.{WrittenSection};
-ghost use Rattle.bpf_object.specs.FileWriter.{Holds, FailsToHold, section_of};
+ghost use Rattle.bpf_object.specs.private.FileWriter.{Holds, FailsToHold, section_of};
 ghost use Rattle.bpf_object.specs.Kept.{is_kept_section as spec_is_kept, kept_section, kept_sections, numbers};
-ghost use Rattle.bpf_object.specs.ObjectWriter as spec;
-ghost use Rattle.bpf_object.specs.Tables.{kept_content};
+ghost use Rattle.bpf_object.specs.private.ObjectWriter as spec;
+ghost use Rattle.bpf_object.specs.private.Tables.{kept_content};
 
 use crate::fault::ObjectError;
 use crate::file_writer::FileWriter;

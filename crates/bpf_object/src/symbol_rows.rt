@@ -8,8 +8,8 @@ ghost use Rattle.bpf_elf.specs.Symbols.{is_kept_symbol, is_local, st_info, symbo
 ghost use Rattle.bpf_object.specs.Canonical.{symbol_bytes};
 ghost use Rattle.bpf_object.specs.Denotes.{result_limit};
 ghost use Rattle.bpf_object.specs.Kept as spec;
-ghost use Rattle.bpf_object.specs.ObjectWriter as writer;
-ghost use Rattle.bpf_object.specs.SymbolRows as rows;
+ghost use Rattle.bpf_object.specs.private.ObjectWriter as writer;
+ghost use Rattle.bpf_object.specs.private.SymbolRows as rows;
 
 use crate::fault::ObjectError;
 use crate::fields::push64;

@@ -14,7 +14,7 @@ ghost use Rattle.bpf_canon.specs.btf.write.NameOffsets.{all_offsets};
 ghost use Rattle.bpf_object.specs.declared.extension.Part.TheVariants.{Functions, Relocations};
 ghost use Rattle.bpf_object.specs.Denotes.{object_types};
 ghost use Rattle.bpf_object.specs.Sources.{section};
-ghost use Rattle.bpf_object.specs.WrittenTypes as spec;
+ghost use Rattle.bpf_object.specs.private.WrittenTypes as spec;
 
 use crate::extension::Part;
 use crate::extension_file::write_extension;

@@ -4,7 +4,7 @@ use Rattle.bpf_elf.specs.Rules.{first_broken}
 use Rattle.bpf_object.specs.declared.extension.Part.TheVariants.{Relocations}
 use Rattle.bpf_object.specs.Extension.{groups}
 use Rattle.bpf_object.specs.Lines.{accesses_rules}
-use Rattle.bpf_object.specs.Cursors.{rest_of}
+use Rattle.bpf_object.specs.private.Cursors.{rest_of}
 use Rattle.bpf_object.specs.Sources.{section, HasGroup}
 use Rattle.bpf_object.proofs.access_checks.check_accesses.Given as goal
 

@@ -1,6 +1,6 @@
 use Rattle.std.proofs.Common.{◌∙◌, take, get_or}
 use Rattle.bpf_object.specs.Sources.{section}
-use Rattle.bpf_object.specs.WrittenGroups.{group_offsets, groups_offsets}
+use Rattle.bpf_object.specs.private.WrittenGroups.{group_offsets, groups_offsets}
 use Rattle.bpf_object.proofs.NotedLemmas.{noted_after}
 use Rattle.bpf_object.proofs.WrittenStrings.{taken_next}
 use Rattle.bpf_object.proofs.extension_strings.note_groups.Goals as goal

@@ -1,7 +1,7 @@
 use Rattle.std.proofs.Common.{◌≡◌, take}
 use Rattle.bpf_canon.specs.btf.strings.FirstUses.{noted_all}
 use Rattle.bpf_object.specs.Sources.{section}
-use Rattle.bpf_object.specs.WrittenGroups.{groups_offsets}
+use Rattle.bpf_object.specs.private.WrittenGroups.{groups_offsets}
 use Rattle.bpf_object.proofs.extension_strings.note_groups.Given as goal
 
 abbrev pub invariant-loop-k : goal.invariant-loop-k

@@ -1,7 +1,7 @@
 use Rattle.std.proofs.Common.{◌≡◌, ℕ, sym, subst}
 use Rattle.std.specs.List.{Contains}
 use Rattle.bpf_elf.specs.Names.{string_at}
-use Rattle.bpf_object.specs.NotedStrings.{text_offset}
+use Rattle.bpf_object.specs.private.NotedStrings.{text_offset}
 use Rattle.bpf_object.proofs.WrittenStrings.{name_noted, placed_at}
 use Rattle.bpf_object.proofs.extension_writer.new_name_offset.Goals as goal
 

@@ -1,6 +1,6 @@
-use Rattle.bpf_object.specs.NotedStrings.{text_offset}
+use Rattle.bpf_object.specs.private.NotedStrings.{text_offset}
 use Rattle.bpf_object.specs.Sources.{section}
-use Rattle.bpf_object.specs.WrittenGroups.{group_bytes_at}
+use Rattle.bpf_object.specs.private.WrittenGroups.{group_bytes_at}
 use Rattle.bpf_object.proofs.KeptLemmas.{appended}
 use Rattle.bpf_object.proofs.WrittenStrings.{taken_next}
 use Rattle.bpf_object.proofs.extension_writer.push_groups.Goals as goal

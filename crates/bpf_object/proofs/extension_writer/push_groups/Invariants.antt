@@ -1,7 +1,7 @@
 use Rattle.std.proofs.Common.{◌≡◌, ◌++◌, take}
-use Rattle.bpf_object.specs.NotedStrings.{text_offset}
+use Rattle.bpf_object.specs.private.NotedStrings.{text_offset}
 use Rattle.bpf_object.specs.Sources.{section}
-use Rattle.bpf_object.specs.WrittenGroups.{groups_bytes}
+use Rattle.bpf_object.specs.private.WrittenGroups.{groups_bytes}
 use Rattle.bpf_object.proofs.extension_writer.push_groups.Given as goal
 
 abbrev pub invariant-loop-k : goal.invariant-loop-k

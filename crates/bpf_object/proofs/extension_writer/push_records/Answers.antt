@@ -1,4 +1,4 @@
-use Rattle.bpf_object.specs.NotedStrings.{text_offset}
+use Rattle.bpf_object.specs.private.NotedStrings.{text_offset}
 use Rattle.bpf_object.specs.Sources.{section}
 use Rattle.bpf_object.proofs.KeptLemmas.{appended}
 use Rattle.bpf_object.proofs.WrittenStrings.{records_next}

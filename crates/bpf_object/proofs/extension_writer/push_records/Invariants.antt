@@ -1,7 +1,7 @@
 use Rattle.std.proofs.Common.{◌≡◌, ◌++◌}
-use Rattle.bpf_object.specs.NotedStrings.{text_offset}
+use Rattle.bpf_object.specs.private.NotedStrings.{text_offset}
 use Rattle.bpf_object.specs.Sources.{section}
-use Rattle.bpf_object.specs.WrittenGroups.{records_bytes}
+use Rattle.bpf_object.specs.private.WrittenGroups.{records_bytes}
 use Rattle.bpf_object.proofs.extension_writer.push_records.Given as goal
 
 abbrev pub invariant-loop-k : goal.invariant-loop-k

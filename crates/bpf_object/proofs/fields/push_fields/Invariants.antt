@@ -1,5 +1,5 @@
 use Rattle.std.proofs.Common.{◌≡◌, ◌++◌, take}
-use Rattle.bpf_object.specs.Fields.{encode}
+use Rattle.bpf_object.specs.private.Fields.{encode}
 use Rattle.bpf_object.proofs.fields.push_fields.Given as goal
 
 abbrev pub invariant-loop-field : goal.invariant-loop-field

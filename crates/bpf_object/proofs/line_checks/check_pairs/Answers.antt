@@ -3,7 +3,7 @@ use Rattle.std.specs.List.{All}
 use Rattle.bpf_object.specs.declared.extension.Part.TheVariants.{Functions, Lines}
 use Rattle.bpf_object.specs.Extension.{groups}
 use Rattle.bpf_object.specs.Lines.{pairs_rules}
-use Rattle.bpf_object.specs.Cursors.{rest_of}
+use Rattle.bpf_object.specs.private.Cursors.{rest_of}
 use Rattle.bpf_object.specs.Sources.{section, HasGroup}
 use Rattle.bpf_object.proofs.CursorLemmas.{group_there, groups_after, fewer_groups}
 use Rattle.bpf_object.proofs.StepLemmas.{same_checks, pairs_of, pairs_at, pairs_fault, pairs_after}

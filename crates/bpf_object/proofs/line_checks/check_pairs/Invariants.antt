@@ -4,7 +4,7 @@ use Rattle.bpf_elf.specs.Rules.{first_broken}
 use Rattle.bpf_object.specs.declared.extension.Part.TheVariants.{Functions, Lines}
 use Rattle.bpf_object.specs.Extension.{groups}
 use Rattle.bpf_object.specs.Lines.{pairs_rules}
-use Rattle.bpf_object.specs.Cursors.{rest_of}
+use Rattle.bpf_object.specs.private.Cursors.{rest_of}
 use Rattle.bpf_object.specs.Sources.{section, HasGroup}
 use Rattle.bpf_object.proofs.line_checks.check_pairs.Given as goal
 

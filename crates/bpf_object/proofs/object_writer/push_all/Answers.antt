@@ -5,10 +5,10 @@ use Rattle.bpf_object.specs.declared.fault.ObjectError.{ObjectError}
 use Rattle.bpf_object.specs.Canonical.{offset_of}
 use Rattle.bpf_object.specs.Denotes.{result_limit}
 use Rattle.bpf_object.specs.File.{WrittenSection}
-use Rattle.bpf_object.specs.FileWriter.{Holds}
-use Rattle.bpf_object.specs.Names.{Extends}
-use Rattle.bpf_object.specs.ObjectWriter.{FailsToWrite, section_names, written_first, names_with, both_with, first_written}
-use Rattle.bpf_object.specs.Written.{content_of}
+use Rattle.bpf_object.specs.private.FileWriter.{Holds}
+use Rattle.bpf_object.specs.private.Names.{Extends}
+use Rattle.bpf_object.specs.private.ObjectWriter.{FailsToWrite, section_names, written_first, names_with, both_with, first_written}
+use Rattle.bpf_object.specs.private.Written.{content_of}
 use Rattle.bpf_object.proofs.ObjectWriterLemmas.{failed_one, writes_both, first_fails}
 use Rattle.bpf_object.proofs.object_writer.push_all.Goals as goal
 

@@ -2,9 +2,9 @@ use Rattle.std.proofs.Common.{ℕ, List, [], ◌∷◌, ◌++◌, sym, ap, ◌�
 use Rattle.bpf_elf.specs.Kinds.{SHT_PROGBITS}
 use Rattle.bpf_object.specs.Canonical.{offset_of, own_section}
 use Rattle.bpf_object.specs.File.{WrittenSection}
-use Rattle.bpf_object.specs.FileWriter.{Holds, section_of}
-use Rattle.bpf_object.specs.Names.{FailsToAdd}
-use Rattle.bpf_object.specs.ObjectWriter.{FailsToWrite}
+use Rattle.bpf_object.specs.private.FileWriter.{Holds, section_of}
+use Rattle.bpf_object.specs.private.Names.{FailsToAdd}
+use Rattle.bpf_object.specs.private.ObjectWriter.{FailsToWrite}
 use Rattle.bpf_object.proofs.ObjectWriterLemmas.{fails_added, failed_one, offset_there, pushed_one}
 use Rattle.bpf_object.proofs.object_writer.push_own.Goals as goal
 

@@ -1,7 +1,7 @@
 use Rattle.std.proofs.Common.{ℕ, List, Option, sym, subst}
 use Rattle.std.specs.Borrow.{Bor}
-use Rattle.bpf_object.specs.ObjectWriter.{Writes, name_with, section_with}
-use Rattle.bpf_object.specs.Written.{content_of}
+use Rattle.bpf_object.specs.private.ObjectWriter.{Writes, name_with, section_with}
+use Rattle.bpf_object.specs.private.Written.{content_of}
 use Rattle.bpf_object.proofs.object_writer.push_types.Goals as goal
 
 pub returns-in-Some : goal.returns-in-Some

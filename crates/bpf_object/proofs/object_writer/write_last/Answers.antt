@@ -1,7 +1,7 @@
 use Rattle.std.proofs.Common.{List, [], ◌∷◌, ◌++◌, MatchResult, sym, ◌∙◌, subst, append_assoc}
 use Rattle.bpf_words.specs.declared.Order.{Order}
 use Rattle.bpf_object.specs.File.{WrittenSection}
-use Rattle.bpf_object.specs.FileWriter.{FailsToHold, IsFileOf, section_of}
+use Rattle.bpf_object.specs.private.FileWriter.{FailsToHold, IsFileOf, section_of}
 use Rattle.bpf_object.proofs.ObjectWriterLemmas.{failed_one, held_more}
 use Rattle.bpf_object.proofs.object_writer.write_last.Goals as goal
 

@@ -4,10 +4,10 @@ use Rattle.bpf_object.specs.declared.fault.ObjectError.{ObjectError}
 use Rattle.bpf_object.specs.Canonical.{file_strings, offset_of, written_sections}
 use Rattle.bpf_object.specs.Denotes.{object_of, result_limit}
 use Rattle.bpf_object.specs.File.{WrittenSection}
-use Rattle.bpf_object.specs.FileWriter.{Holds}
-use Rattle.bpf_object.specs.Names.{Strings, Extends}
-use Rattle.bpf_object.specs.ObjectWriter.{FailsToWrite, first_names, first_written}
-use Rattle.bpf_object.specs.Written.{content_of}
+use Rattle.bpf_object.specs.private.FileWriter.{Holds}
+use Rattle.bpf_object.specs.private.Names.{Strings, Extends}
+use Rattle.bpf_object.specs.private.ObjectWriter.{FailsToWrite, first_names, first_written}
+use Rattle.bpf_object.specs.private.Written.{content_of}
 use Rattle.bpf_object.proofs.ObjectWriterLemmas.{extends_own, failed_one}
 use Rattle.bpf_object.proofs.WrittenObject.{object_written, all_fail, all_done}
 use Rattle.bpf_object.proofs.object_writer.write_object.Goals as goal

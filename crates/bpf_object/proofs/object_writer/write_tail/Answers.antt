@@ -4,12 +4,12 @@ use Rattle.bpf_elf.specs.{Numbers.flags_of, Symbols.symbol_count}
 use Rattle.bpf_elf.specs.Kinds.{SHT_SYMTAB, SHT_STRTAB}
 use Rattle.btf_types.specs.Names.{table_of}
 use Rattle.bpf_object.specs.Denotes.{result_limit}
-use Rattle.bpf_object.specs.ObjectWriter.{FailsToWrite, last_names, last_written, symbol_names, symbols_first}
+use Rattle.bpf_object.specs.private.ObjectWriter.{FailsToWrite, last_names, last_written, symbol_names, symbols_first}
 use Rattle.bpf_object.specs.Canonical.{offset_of, own_section}
 use Rattle.bpf_object.specs.File.{WrittenSection}
-use Rattle.bpf_object.specs.FileWriter.{FailsToHold, IsFileOf, section_of}
-use Rattle.bpf_object.specs.SymbolRows.{globals_from}
-use Rattle.bpf_object.specs.Names.{Strings, FailsToAdd}
+use Rattle.bpf_object.specs.private.FileWriter.{FailsToHold, IsFileOf, section_of}
+use Rattle.bpf_object.specs.private.SymbolRows.{globals_from}
+use Rattle.bpf_object.specs.private.Names.{Strings, FailsToAdd}
 use Rattle.bpf_object.proofs.ObjectWriterLemmas.{failed_one, fails_added, offset_there, first_more, second_more, third_more, three_same, tail_done}
 use Rattle.bpf_object.proofs.object_writer.write_tail.Goals as goal
 

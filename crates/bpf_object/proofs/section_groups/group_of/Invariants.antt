@@ -1,7 +1,7 @@
 use Rattle.std.proofs.Common.{◌≡◌, length}
 use Rattle.std.specs.{List.All, List.find, Str.bytes_eq}
 use Rattle.bpf_object.specs.Lines.{name_of}
-use Rattle.bpf_object.specs.Cursors.{rest_of}
+use Rattle.bpf_object.specs.private.Cursors.{rest_of}
 use Rattle.bpf_object.specs.SourceLines as spec
 use Rattle.bpf_object.specs.Sources.{section, HasGroup}
 use Rattle.bpf_object.proofs.section_groups.group_of.Given as goal

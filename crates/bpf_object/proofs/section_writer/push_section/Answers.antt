@@ -3,12 +3,12 @@ use Rattle.bpf_elf.specs.Numbers.{names, order_of}
 use Rattle.bpf_elf.specs.{Names.string_at, Sections.content, Sections.name}
 use Rattle.bpf_object.specs.Denotes.{result_limit}
 use Rattle.bpf_object.specs.Canonical.{offset_of, written_section}
-use Rattle.bpf_object.specs.FileWriter.{Holds, section_of}
+use Rattle.bpf_object.specs.private.FileWriter.{Holds, section_of}
 use Rattle.bpf_object.specs.Kept.{kept_section}
-use Rattle.bpf_object.specs.Names.{Adds, FailsToAdd}
+use Rattle.bpf_object.specs.private.Names.{Adds, FailsToAdd}
 use Rattle.bpf_object.specs.File.{WrittenSection}
-use Rattle.bpf_object.specs.ObjectWriter.{FailsToWrite}
-use Rattle.bpf_object.specs.Tables.{kept_content}
+use Rattle.bpf_object.specs.private.ObjectWriter.{FailsToWrite}
+use Rattle.bpf_object.specs.private.Tables.{kept_content}
 use Rattle.bpf_object.proofs.ObjectWriterLemmas.{fails_added, failed_one, offset_there, pushed_one}
 use Rattle.bpf_object.proofs.section_writer.push_section.Goals as goal
 

@@ -3,11 +3,11 @@ use Rattle.bpf_elf.specs.Numbers.{count}
 use Rattle.btf_types.specs.Names.{kept}
 use Rattle.bpf_object.specs.Denotes.{result_limit}
 use Rattle.bpf_object.specs.declared.fault.ObjectError.{ObjectError}
-use Rattle.bpf_object.specs.ObjectWriter.{FailsToWrite, name_if, written_first, written_if}
+use Rattle.bpf_object.specs.private.ObjectWriter.{FailsToWrite, name_if, written_first, written_if}
 use Rattle.bpf_object.specs.Canonical.{offset_of}
 use Rattle.bpf_object.specs.File.{WrittenSection}
-use Rattle.bpf_object.specs.FileWriter.{Holds}
-use Rattle.bpf_object.specs.Names.{Extends}
+use Rattle.bpf_object.specs.private.FileWriter.{Holds}
+use Rattle.bpf_object.specs.private.Names.{Extends}
 use Rattle.bpf_object.proofs.ObjectWriterLemmas.{WrittenTo, failed_one, same_source, same_limit, written_more, fails_at}
 use Rattle.bpf_object.proofs.section_writer.push_sections.Goals as goal
 

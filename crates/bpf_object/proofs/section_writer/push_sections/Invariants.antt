@@ -1,9 +1,9 @@
 use Rattle.std.proofs.Common.{ℕ, List, ◌++◌, length}
 use Rattle.btf_types.specs.Names.{kept}
 use Rattle.bpf_object.specs.Denotes.{result_limit}
-use Rattle.bpf_object.specs.ObjectWriter.{HasWritten, section_names, written_first}
+use Rattle.bpf_object.specs.private.ObjectWriter.{HasWritten, section_names, written_first}
 use Rattle.bpf_object.specs.Canonical.{offset_of}
-use Rattle.bpf_object.specs.Names.{Extends}
+use Rattle.bpf_object.specs.private.Names.{Extends}
 use Rattle.bpf_object.proofs.section_writer.push_sections.Given as goal
 
 abbrev pub invariant-loop-i : goal.invariant-loop-i

@@ -2,11 +2,11 @@ use Rattle.std.proofs.Common.{◌≡◌, ℕ, List, ◌++◌, sym, ap, ◌∙◌
 use Rattle.bpf_elf.specs.Names.{string_at}
 use Rattle.bpf_elf.specs.Symbols.{symbol_name, symbol_strings}
 use Rattle.bpf_object.specs.Denotes.{result_limit}
-use Rattle.bpf_object.specs.ObjectWriter.{FailsToWrite}
+use Rattle.bpf_object.specs.private.ObjectWriter.{FailsToWrite}
 use Rattle.bpf_object.specs.Canonical.{offset_of}
 use Rattle.bpf_object.specs.File.{WrittenSection}
 use Rattle.bpf_object.specs.Kept.{symbol_section}
-use Rattle.bpf_object.specs.Names.{Adds, FailsToAdd}
+use Rattle.bpf_object.specs.private.Names.{Adds, FailsToAdd}
 use Rattle.bpf_object.proofs.ObjectWriterLemmas.{fails_added, failed_one, offset_there, row_one}
 use Rattle.bpf_object.proofs.KeptLemmas.{symbol_row_is}
 use Rattle.bpf_object.proofs.symbol_rows.push_symbol.Goals as goal

@@ -3,9 +3,9 @@ use Rattle.bpf_elf.specs.Symbols.{symbol_count}
 use Rattle.btf_types.specs.Names.{kept}
 use Rattle.bpf_object.specs.Denotes.{result_limit}
 use Rattle.bpf_object.specs.declared.fault.ObjectError.{ObjectError}
-use Rattle.bpf_object.specs.ObjectWriter.{FailsToWrite, symbol_name_if}
+use Rattle.bpf_object.specs.private.ObjectWriter.{FailsToWrite, symbol_name_if}
 use Rattle.bpf_object.specs.File.{WrittenSection}
-use Rattle.bpf_object.specs.Names.{Extends}
+use Rattle.bpf_object.specs.private.Names.{Extends}
 use Rattle.bpf_object.proofs.ObjectWriterLemmas.{RowsTo, failed_one, rows_source, rows_limit, rows_more, rows_fail}
 use Rattle.bpf_object.proofs.symbol_rows.push_symbols.Goals as goal
 

@@ -1,6 +1,6 @@
 use Rattle.std.proofs.Common.{List, ℕ, sym, subst, ◌∙◌}
 use Rattle.std.proofs.lemmas.Result.{IfOk-weaker}
-use Rattle.bpf_object.specs.WrittenTypes.{AreGroups}
+use Rattle.bpf_object.specs.private.WrittenTypes.{AreGroups}
 use Rattle.bpf_object.proofs.InsideLemmas.{some_checked, checked_groups}
 use Rattle.bpf_object.proofs.types_writer.groups_in.Goals as goal
 

@@ -4,7 +4,7 @@ use Rattle.bpf_canon.specs.btf.write.NameOffsets.{all_offsets}
 use Rattle.bpf_object.specs.declared.extension.Part.TheVariants.{Functions, Relocations}
 use Rattle.bpf_object.specs.Extension.{groups}
 use Rattle.bpf_object.specs.Sources.{section}
-use Rattle.bpf_object.specs.WrittenGroups.{groups_offsets}
+use Rattle.bpf_object.specs.private.WrittenGroups.{groups_offsets}
 use Rattle.bpf_object.proofs.NotedLemmas.{three_noted}
 use Rattle.bpf_object.proofs.types_writer.note_both.Goals as goal
 

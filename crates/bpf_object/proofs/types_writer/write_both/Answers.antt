@@ -1,10 +1,10 @@
 use Rattle.std.proofs.Common.{◌≡◌, ◌<◌, ◌≤◌, ℕ, List, length, inl, sym, subst, ◌∙◌, arith}
 use Rattle.std.specs.List.{All}
 use Rattle.bpf_object.specs.declared.extension.Part.TheVariants.{Functions, Relocations}
-use Rattle.bpf_object.specs.NotedStrings.{HasStrings, text_offset}
+use Rattle.bpf_object.specs.private.NotedStrings.{HasStrings, text_offset}
 use Rattle.bpf_object.specs.Sources.{section}
-use Rattle.bpf_object.specs.WrittenGroups.{written_extension}
-use Rattle.bpf_object.specs.WrittenTypes.{written_btf}
+use Rattle.bpf_object.specs.private.WrittenGroups.{written_extension}
+use Rattle.bpf_object.specs.private.WrittenTypes.{written_btf}
 use Rattle.bpf_object.proofs.FitLemmas.{names_there, function_strings_there, relocation_strings_there, long_btf, long_extension, without_extension, with_extension}
 use Rattle.bpf_object.proofs.types_writer.write_both.Goals as goal
 

@@ -1,5 +1,5 @@
 use Rattle.std.proofs.Common.{◌++◌, List, ℕ, ap, length, sym, ◌∙◌}
-use Rattle.bpf_object.specs.NotedStrings.{text_offset}
+use Rattle.bpf_object.specs.private.NotedStrings.{text_offset}
 use Rattle.bpf_object.proofs.TypesLength.{types_length, btf_pushed, btf_short, btf_long}
 use Rattle.bpf_object.proofs.types_writer.write_btf.Goals as goal
 

@@ -1,7 +1,7 @@
 use Rattle.std.proofs.Common.{◌<◌, length, inl, refl, sym}
 use Rattle.bpf_canon.specs.btf.strings.{NamesByOffset.texts_by_offset, DistinctNames.distinct_table}
 use Rattle.bpf_object.specs.Sources.{section}
-use Rattle.bpf_object.specs.WrittenTypes.{both_names}
+use Rattle.bpf_object.specs.private.WrittenTypes.{both_names}
 use Rattle.bpf_object.proofs.FitLemmas.{long_table}
 use Rattle.bpf_object.proofs.types_writer.write_types.Goals as goal
 

@@ -1,7 +1,7 @@
 use Rattle.std.proofs.Common.{◌≡◌, ℕ, ◌+◌, ◌++◌, length, sym, refl, ap, ◌∙◌, subst, arith}
-use Rattle.bpf_object.specs.Fields.{encode}
-use Rattle.bpf_object.specs.FileOf.{section_fields}
-use Rattle.bpf_object.specs.FileWriter.{FileSoFar, Holds, section_of}
+use Rattle.bpf_object.specs.private.Fields.{encode}
+use Rattle.bpf_object.specs.private.FileOf.{section_fields}
+use Rattle.bpf_object.specs.private.FileWriter.{FileSoFar, Holds, section_of}
 use Rattle.bpf_object.proofs.FileWriterLemmas.{holds_more}
 use Rattle.bpf_object.proofs.file_writer.FileWriter.push.Goals as goal
 

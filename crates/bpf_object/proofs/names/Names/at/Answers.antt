@@ -1,7 +1,7 @@
 use Rattle.std.proofs.Common.{refl, sym, ap, ◌∙◌, subst}
 use Rattle.bpf_elf.specs.Names.{string_at as spec_string_at}
 use Rattle.btf_raw.specs.Names.{IsWithoutNul}
-use Rattle.bpf_object.specs.Names.{Strings, Adds}
+use Rattle.bpf_object.specs.private.Names.{Strings, Adds}
 use Rattle.bpf_object.proofs.NamesLemmas.{string_without_nul, known_again, known_stored, known_same, IsKnown, known_now}
 use Rattle.bpf_object.proofs.names.Names.at.Goals as goal
 use Rattle.bpf_object.proofs.names.Names.at.Goals.{in-Ok, in-Err}

@@ -2,7 +2,7 @@ use Rattle.std.proofs.Common.{◌≡◌, ◌<◌, ◌++◌, ◌∷◌, [], ℕ, 
 use Rattle.std.specs.Prelude.{◌==◌}
 use Rattle.std.proofs.lemmas.{Bool.eqb-true, Bool.eqb-false}
 use Rattle.btf_types.specs.Names.{kept, table_of}
-use Rattle.bpf_object.specs.Names.{Strings, Adds, strings_in}
+use Rattle.bpf_object.specs.private.Names.{Strings, Adds, strings_in}
 use Rattle.bpf_object.proofs.NamesLemmas.{stored_empty, stored_known, stored_new, past_limit, unchanged}
 use Rattle.bpf_object.proofs.names.Names.text.Goals as goal
 

@@ -4,7 +4,7 @@ use Rattle.std.specs.List.{flat_map}
 use Rattle.bpf_words.specs.{declared.Order.Order}
 use Rattle.bpf_object.specs.declared.fields.Field.{Field}
 use Rattle.bpf_object.specs.declared.fields.Field.TheVariants.{Half, Word, Long}
-use Rattle.bpf_object.specs.Fields.{encode}
+use Rattle.bpf_object.specs.private.Fields.{encode}
 use Rattle.bpf_object.specs.File.{WrittenSection, ident, padding}
 
 -- e_type ET_REL, e_machine EM_BPF, e_version, e_entry, e_phoff, e_shoff, e_flags, then the sizes and numbers of headers; the last section has the names

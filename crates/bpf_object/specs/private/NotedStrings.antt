@@ -6,7 +6,7 @@ use Rattle.bpf_object.specs.declared.{extension.Part.Part, source.Source.Source}
 use Rattle.bpf_object.specs.declared.extension.Part.TheVariants.{Relocations}
 use Rattle.bpf_object.specs.Extension.{groups}
 use Rattle.bpf_object.specs.Sources.{section, HasParts}
-use Rattle.bpf_object.specs.WrittenGroups.{group_offsets}
+use Rattle.bpf_object.specs.private.WrittenGroups.{group_offsets}
 
 -- the offset of a string among these
 abbrev pub text_offset : NamesByOffset → List ℕ → ℕ

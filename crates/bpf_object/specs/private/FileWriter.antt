@@ -6,7 +6,7 @@ use Rattle.bpf_object.specs.declared.fault.ObjectError.{ObjectError}
 use Rattle.bpf_object.specs.declared.fault.ObjectError.TheVariants as errors
 use Rattle.bpf_words.specs.declared.Order.{Order}
 use Rattle.bpf_object.specs.File.{WrittenSection}
-use Rattle.bpf_object.specs.FileOf.{contents, headers, file_of, is_small_file}
+use Rattle.bpf_object.specs.private.FileOf.{contents, headers, file_of, is_small_file}
 use Rattle.bpf_object.specs.ObjectFaults.{IsTooLarge}
 
 -- a section, by its header, of which the offset doesn't matter, and its content

@@ -8,17 +8,17 @@ use Rattle.bpf_object.specs.declared.fault.ObjectError.TheVariants as errors
 use Rattle.bpf_object.specs.Canonical.{canonical, strings_of, offset_of, written_section, symbol_bytes, own_section}
 use Rattle.bpf_object.specs.Denotes.{object_of, result_limit}
 use Rattle.bpf_elf.specs.Kinds.{SHT_PROGBITS, SHT_SYMTAB, SHT_STRTAB}
-use Rattle.bpf_object.specs.SymbolRows.{globals_from}
+use Rattle.bpf_object.specs.private.SymbolRows.{globals_from}
 use Rattle.bpf_object.specs.File.{WrittenSection}
-use Rattle.bpf_object.specs.FileOf.{is_small_file}
-use Rattle.bpf_object.specs.FileWriter.{FileSoFar, Holds}
+use Rattle.bpf_object.specs.private.FileOf.{is_small_file}
+use Rattle.bpf_object.specs.private.FileWriter.{FileSoFar, Holds}
 use Rattle.bpf_object.specs.Kept.{listed, is_kept_section, kept_section, kept_sections, kept_symbol}
 use Rattle.bpf_elf.specs.Symbols.{is_kept_symbol, symbol_count}
 use Rattle.std.specs.List.{flat_map}
-use Rattle.bpf_object.specs.Names.{Strings, Extends}
+use Rattle.bpf_object.specs.private.Names.{Strings, Extends}
 use Rattle.bpf_object.specs.ObjectFaults.{IsTooLarge}
 use Rattle.bpf_object.specs.Objects.{ObjectTypes}
-use Rattle.bpf_object.specs.Written.{btf_content, extension_content}
+use Rattle.bpf_object.specs.private.Written.{btf_content, extension_content}
 
 -- no file of these sections, or with these strings, is small enough
 abbrev pub FailsToWrite : ℕ → List (List ℕ) → List WrittenSection → ObjectError → Type 0

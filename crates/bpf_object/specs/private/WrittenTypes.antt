@@ -11,10 +11,10 @@ use Rattle.bpf_object.specs.Canonical.{types_bytes, types_strings, offset_of, bt
 use Rattle.bpf_object.specs.Denotes.{btf_fits}
 use Rattle.bpf_object.specs.Extension.{Section, groups}
 use Rattle.bpf_object.specs.Objects.{ObjectTypes}
-use Rattle.bpf_object.specs.NotedStrings.{AreInside, IsChecked, text_offset}
+use Rattle.bpf_object.specs.private.NotedStrings.{AreInside, IsChecked, text_offset}
 use Rattle.bpf_object.specs.Sources.{section, HasGroup}
-use Rattle.bpf_object.specs.Written.{extension_content, items_of}
-use Rattle.bpf_object.specs.WrittenGroups.{groups_offsets}
+use Rattle.bpf_object.specs.private.Written.{extension_content, items_of}
+use Rattle.bpf_object.specs.private.WrittenGroups.{groups_offsets}
 
 -- a file may have no .BTF.ext, which is then empty
 abbrev pub IsRead : Source → Type 0

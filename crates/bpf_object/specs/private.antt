@@ -1,0 +1,13 @@
+pub mod Cursors
+pub mod Tables
+pub mod WrittenGroups
+pub mod NotedStrings
+pub mod SymbolRows
+pub mod Written
+pub mod WrittenTypes
+pub mod Names
+pub mod Fields
+pub mod FileOf
+pub mod FileWriter
+pub mod ObjectWriter
+pub mod AcceptedFacts
