@@ -5,7 +5,7 @@
 //! different lengths, and may have all bytes of the shorter one in common. A long string at an offset
 //! of the table that is read is looked up by its bytes once: each of a million symbols may have it.
 
-ghost use Rattle.std.specs.Prelude.{◌≡◌, ◌<◌, [], true, length, IfOk, MatchResult};
+ghost use Rattle.std.specs.Prelude.{◌≡◌, ◌<◌, [], true, length, take, IfOk, MatchResult};
 ghost use Rattle.bpf_elf.specs.Names.{is_closed, string_at as spec_string_at};
 ghost use Rattle.btf_raw.specs.Names.{IsWithoutNul};
 ghost use Rattle.btf_types.specs.Names.{kept, table_of};
@@ -26,7 +26,24 @@ pub(crate) const TOO_LARGE: ObjectFault = ObjectFault {
 /// The bytes from which on a string is long.
 const LONG: usize = 4096;
 
-/// Appends a string with its NUL, and stores its offset. If memory runs out, nothing changes.
+/// Appends a string with its NUL, and stores its offset. If memory runs out, a part may have been
+/// appended.
+fn append_text<'a, A: Allocator + Copy>(
+    bytes: &mut Vec<u8, A>,
+    by_text: &mut BTreeMap<(usize, &'a [u8]), u32, A>,
+    text: &'a [u8],
+    offset: u32,
+) -> Result<(), AllocError>
+    ensures { MatchResult result (λ _. spec.PushesText bytes.old.items bytes.new.items by_text.old by_text.new text.now offset)
+        (λ _. (take (length bytes.old.items) bytes.new.items ≡ bytes.old.items) × (by_text.new.entries ≡ by_text.old.entries)) }
+{
+    bytes.extend_from_slice(text)?;
+    bytes.push(0)?;
+    by_text.insert((text.len(), text), offset)?;
+    Ok(())
+}
+
+/// Likewise; if memory runs out, nothing changes.
 fn push_text<'a, A: Allocator + Copy>(
     bytes: &mut Vec<u8, A>,
     by_text: &mut BTreeMap<(usize, &'a [u8]), u32, A>,
@@ -37,21 +54,27 @@ fn push_text<'a, A: Allocator + Copy>(
         (λ _. (bytes.new.items ≡ bytes.old.items) × (by_text.new.entries ≡ by_text.old.entries)) }
 {
     let len = bytes.len();
-    bytes.extend_from_slice(text)?;
-    match bytes.push(0) {
-        Ok(()) => {}
+    match append_text(bytes, by_text, text, offset) {
+        Ok(()) => Ok(()),
         Err(e) => {
             bytes.truncate(len);
-            return Err(AllocError::from(e));
+            Err(e)
         }
     }
-    match by_text.insert((text.len(), text), offset) {
-        Ok(_) => Ok(()),
-        Err(e) => {
-            bytes.truncate(len);
-            Err(AllocError::from(e))
-        }
-    }
+}
+
+/// Stores the offset of a long string, by that in the table that is read. If memory runs out, nothing
+/// changes.
+fn store<A: Allocator + Copy>(
+    by_offset: &mut BTreeMap<u32, u32, A>,
+    off: u32,
+    offset: u32,
+) -> Result<(), AllocError>
+    ensures { MatchResult result (λ _. spec.Stores by_offset.old by_offset.new off offset)
+        (λ _. by_offset.new.entries ≡ by_offset.old.entries) }
+{
+    by_offset.insert(off, offset)?;
+    Ok(())
 }
 
 /// The strings that have been written.
@@ -126,13 +149,10 @@ impl<'a, A: Allocator + Copy> Names<'a, A> {
         }
         let text = string_at(self.source, off as usize);
         let offset = self.text(text)?;
-        if text.len() < LONG {
-            return Ok(offset);
+        if text.len() >= LONG {
+            store(&mut self.by_offset, off, offset)?;
         }
-        match self.by_offset.insert(off, offset) {
-            Ok(_) => Ok(offset),
-            Err(_) => Err(ObjectError::Memory),
-        }
+        Ok(offset)
     }
 
     /// Reads strings from another table from now on.

@@ -1,6 +1,6 @@
 -- A string table while it is written: each distinct string once, in the order of first use.
-use Rattle.std.specs.Prelude.{◌≡◌, ℕ, zero, suc, ◌<◌, ◌≤◌, ◌^◌, ⊤, List, [], ◌∷◌, ◌++◌, Some, length}
-use Rattle.std.specs.{BTreeMap.BTreeMap, BTreeMap.get_by, List.All, Map.update, Ordering.nat_cmp, Str.bytes_eq}
+use Rattle.std.specs.Prelude.{◌≡◌, ℕ, zero, suc, ◌<◌, ◌≤◌, ◌^◌, ⊤, List, [], ◌∷◌, ◌++◌, Some, length, if◌then◌else◌}
+use Rattle.std.specs.{BTreeMap.BTreeMap, BTreeMap.get_by, List.All, Map.update, Ordering.nat_cmp, Ordering.is_eq, Str.bytes_eq}
 use Rattle.bpf_elf.specs.Names.{string_at}
 use Rattle.btf_raw.specs.Names.{IsWithoutNul}
 use Rattle.btf_types.specs.Names.{kept, table_of}
@@ -45,6 +45,10 @@ pub record IsStringTable (bytes : List ℕ) (by_text : OffsetsByText) (source : 
 pub record PushesText (old new : List ℕ) (old_offsets new_offsets : OffsetsByText) (x : List ℕ) (offset : ℕ) : Type 0 where
   pub bytes : new ≡ (old ++ x) ++ 0 ∷ []
   pub offsets : (y : List ℕ) → offset_for new_offsets y ≡ update bytes_eq (offset_for old_offsets) x (Some offset) y
+
+-- an offset was stored by another one
+abbrev pub Stores : BTreeMap ℕ ℕ → BTreeMap ℕ ℕ → ℕ → ℕ → Type 0
+Stores old new off offset = (q : ℕ) → get_by (nat_cmp q) new ≡ (if is_eq (nat_cmp off q) then Some offset else get_by (nat_cmp q) old)
 
 -- a string is in the new table, at this offset
 pub record Adds (old new : Strings) (x : List ℕ) (offset : ℕ) : Type 0 where

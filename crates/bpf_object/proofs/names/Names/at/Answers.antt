@@ -4,7 +4,6 @@ use Rattle.btf_raw.specs.Names.{IsWithoutNul}
 use Rattle.bpf_object.specs.private.Names.{Strings, Adds}
 use Rattle.bpf_object.proofs.NamesLemmas.{string_without_nul, known_again, known_stored, known_same, IsKnown, known_now}
 use Rattle.bpf_object.proofs.names.Names.at.Goals as goal
-use Rattle.bpf_object.proofs.names.Names.at.Goals.{in-Ok, in-Err}
 
 pub returns-in-Some : goal.returns-in-Some
 returns-in-Some g c =
@@ -18,13 +17,14 @@ returns-in-Some g c =
 pub text-requires : goal.text-requires
 text-requires g c = subst IsWithoutNul (sym c.string_at-text.ensures) (string_without_nul c.self.inside.source.now c.args.off)
 
+pub invariant_of-self-in_err-store : goal.invariant_of-self-in_err-store
+invariant_of-self-in_err-store g c =
+    let s = c.self-2.inside in
+    known_same s.bytes.items s.source.now s.by_text s.by_offset s.limit c.self-2.invariant c.store.new.by_offset c.in_err-store.ensures
+
 pub invariant_of-self : goal.invariant_of-self
 invariant_of-self g c =
     let s = c.self-2.inside in
-    let it = c.self-2.invariant in
     let known = subst (λ (n : Strings). IsKnown n c.args.off c.in_ok-offset.offset) (sym c.self-2.view_is)
     (known_now c.args.self.now c.text.new.self c.string_at-text.result.now c.args.off c.in_ok-offset.offset c.in_ok-offset.ensures (c.string_at-text.ensures ∙ ap (λ (o : Strings). spec_string_at o.source c.args.off) c.self.view_is)) in
-    elim c.match-insert.branch [
-      | in-Ok w ↦ known_stored s.bytes.items s.source.now s.by_text s.by_offset s.limit it c.insert.new.self c.args.off c.in_ok-offset.offset known.0 known.1 w.in-Ok.ensures.updates.0
-      | in-Err w ↦ known_same s.bytes.items s.source.now s.by_text s.by_offset s.limit it c.insert.new.self w.in-Err.ensures.err
-    ]
+    known_stored s.bytes.items s.source.now s.by_text s.by_offset s.limit c.self-2.invariant c.store.new.by_offset c.args.off c.in_ok-offset.offset known.0 known.1 c.in_ok-store.ensures
