@@ -145,7 +145,7 @@ def test_source_lines(order: str, flows: Any, review: Review) -> None:
     """A changed constant of the program has its source line, on both sides."""
     found = review.changes(flows, review.accepted(compiled("changed", order)))
     lines = [it for it in found["changed function xdp count_flows"] if it[0] in "-+" and "digest=" not in it]
-    assert [re.sub(r"\s+", " ", it) for it in lines] == ["- mov32 r0, 2 ; ./flows.c:48: total++;", "+ mov32 r0, 1 ; ./flows.c:48: total++;"]
+    assert [re.sub(r"\s+", " ", it) for it in lines] == ["- mov32 r0, 2 # not signed: ./flows.c:48: total++;", "+ mov32 r0, 1 # not signed: ./flows.c:48: total++;"]
     assert "changed data .rodata limit" in found
     assert review.changes(flows, flows) == {}
 
@@ -201,6 +201,7 @@ def test_statuses(run: Run, tmp_path: Path) -> None:
     assert [bool(it.stderr) for it in done] == [False, False, True, False, True, True]
     assert done[0].stdout == b"" and done[4].stdout.count(b"flows.little.elf") == 3
     assert done[2].stderr == b"bpfcanon-review: none: No such file or directory\n"
+    assert done[4].stderr == b"cut: byte 40: SectionTable: the section header table isn't inside the file\n"
 
 
 # What a function returns in each of two files, and the name of that in each section.
@@ -210,12 +211,12 @@ RETURNED, FUNCTIONS = {"old": 1, "new": 2}, {"one": "first", "two": "second"}
 @pytest.mark.needs("clang")
 @pytest.mark.parametrize("name, title", [(b"two", "two second"), (b"one", "one#2 second")])
 def test_source_lines_of_each_section(name: bytes, title: str, review: Review, tmp_path: Path) -> None:
-    """Each file and section has its own lines. Of two sections with one name, .BTF.ext is about the first."""
+    """Each file and section has its own lines, which no text in them ends. Of two sections with one name, .BTF.ext is about the first."""
     objects, lines = [], []
     for side, value in RETURNED.items():
         path, out = tmp_path / f"{side}.c", tmp_path / f"{side}.o"
         attribute = '__attribute__((section("{}")))'.format
-        texts = [f"{attribute(place)} int {it}(void *context) {{ return {value}; }} // {side}" for place, it in FUNCTIONS.items()]
+        texts = [f"{attribute(place)} int {it}(void *context) {{ return {value}; }} //  ; {side}" for place, it in FUNCTIONS.items()]
         path.write_text("\n".join(texts))
         assert compile_source(path, "bpfel", ("-g",), out)
         file = ElfFile.read(out.read_bytes())
@@ -229,8 +230,8 @@ def test_source_lines_of_each_section(name: bytes, title: str, review: Review, t
 
 
 def sources(lines: list[str]) -> list[str]:
-    """The source lines of what was removed and added, which follow other notes; "" for none."""
-    return [it.rpartition("  ; ")[2] if ".c:" in it else "" for it in lines if it[0] in "-+" and "digest=" not in it]
+    """The source lines of what was removed and added, which follow all that is signed; "" for none."""
+    return [it.partition("  # not signed: ")[2] for it in lines if it[0] in "-+" and "digest=" not in it]
 
 
 @pytest.mark.needs("clang")
@@ -294,13 +295,13 @@ def marked(data: bytes) -> bytes:
     return bytes(file.write())
 
 
-OLD, NEW, REFUSED = (f"{MARK}{word}" for word in ("old", "new", "refused"))
+OLD, NEW, REFUSED = f"{MARK}old", f"{MARK}new", f"refused{MARK}"
 # What is printed of these names, among other lines.
 PRINTED = {
     "show": (("show", OLD, NEW), f"==> {ESCAPED}old <=="),
     "list": (("list", OLD), f"  {ESCAPED}old"),
-    "source lines": (("diff", OLD, NEW), f"  ; {ESCAPED}ws.c:48: {ESCAPED}l++;"),
-    "a refused file": (("list", REFUSED), f"bpfcanon-review: {ESCAPED}refused: byte 0: Magic: "),
+    "source lines": (("diff", OLD, NEW), f"  # not signed: {ESCAPED}ws.c:48: {ESCAPED}l++;"),
+    "a refused file": (("list", REFUSED), f"refused{ESCAPED}: byte 0: Magic: "),
     "an argument": (("list", REFUSED, f"--{MARK}"), f"--{ESCAPED}"),
 }
 
@@ -337,7 +338,7 @@ def test_longest_file(run: Run, tmp_path: Path) -> None:
     done = run("list", "longest", "longer", "/dev/zero", cwd=tmp_path)
     assert done.returncode == 2 and done.stdout.count(b"longest") == 3
     assert [it.rpartition(b": ")[0] for it in done.stderr.splitlines()] == [
-        b"bpfcanon-review: %s: byte %d: FileTooLarge" % (name, most) for name in (b"longer", b"/dev/zero")
+        b"%s: byte %d: FileTooLarge" % (name, most) for name in (b"longer", b"/dev/zero")
     ]
 
 

@@ -55,7 +55,7 @@ def parser() -> argparse.ArgumentParser:
     made = add("show", "all that is in object files, as text")
     made.add_argument("--textconv", action="store_true", help="for git: a file that is refused is shown by its fault and SHA-256")
     made.add_argument("files", nargs="+", metavar="FILE", help=FILE)
-    made = add("diff", "what differs between two object files, with the source lines of instructions")
+    made = add("diff", "what differs between two object files, with the source lines of instructions, which no key covers")
     made.add_argument("old", metavar="OLD", help=FILE)
     made.add_argument("new", metavar="NEW", help="what it is compared with")
     made = add("list", "the key of each object file, and a digest of each function")
@@ -64,10 +64,11 @@ def parser() -> argparse.ArgumentParser:
 
 
 def complain(error: BaseException, name: str = "standard output") -> None:
-    """Write on standard error what went wrong with a file."""
+    """Write on standard error the fault of a file, in the form that bpfcanon-object has, or what else went wrong with it."""
     text = "out of memory" if isinstance(error, MemoryError) else getattr(error, "strerror", None) or str(error)
+    start = "" if isinstance(error, bpfcanon.FaultError) else f"{NAME}: "
     if sys.stderr is not None:
-        print(f"{NAME}: {printable(name)}: {printable(text)}", file=sys.stderr)
+        print(f"{start}{printable(name)}: {printable(text)}", file=sys.stderr)
 
 
 def main() -> int:

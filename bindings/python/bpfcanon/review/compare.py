@@ -13,6 +13,9 @@ from .source import Sources
 
 MAX_LINES = 4_000  # of two texts; longer ones aren't compared line by line, because difflib takes quadratic time
 CONTEXT = 2  # lines around a difference
+# What follows comes from the original file, and neither its key nor a signature of its canonical file covers it. Names have no # outside quotes
+# after a blank, so nothing else looks like it.
+UNSIGNED = "  # not signed: "
 Operation = tuple[str, int, int, int, int]  # as difflib has them
 
 
@@ -36,9 +39,9 @@ class Side:
         return self.parts[title].lines if title in self.parts else ()
 
     def text(self, line: Line) -> str:
-        """Return a line, with the source of an instruction."""
+        """Return a line, with the source of an instruction as what isn't signed."""
         source = self._sources.at(line.section, line.offset) if line.section else ""
-        return f"{line.text}  ; {source}" if source else line.text
+        return f"{line.text}{UNSIGNED}{source}" if source else line.text
 
 
 def compare(old: Accepted, new: Accepted) -> Iterator[Change]:
