@@ -1,15 +1,18 @@
-"""Limits the time and the memory of the BTF commands on large inputs that are hard for them, and the memory of two commands for
-instructions on the largest programs.
+"""Limits the time and the memory of the BTF commands and of bpfcanon-object on large inputs that are hard for them, and the memory of two
+commands for instructions on the largest programs.
 
 Each BTF file goes through btf-check, btf-canon and btf-same. A run may need twenty times the processor time that was measured, and
 an address space of eight times its input; valid names in the longest string section may need four times. The margins are wide, so
 that a slower machine passes and another order of growth doesn't: a quadratic search needs hundreds of times as long here.
-insn-groups and insn-same store their input and nothing else that grows with it, so they may need 1.1 times its length.
+insn-groups and insn-same store their input and nothing else that grows with it, so they may need 1.1 times its length. bpfcanon-object may
+need four times the object file and its canonical file together.
 
 bench/hard_inputs measures the processor time and the least address space of each run, from which the constants below come.
 """
 
+import hashlib
 import os
+import re
 import resource
 import subprocess
 import tempfile
@@ -18,6 +21,7 @@ from typing import Callable, NamedTuple
 
 import pytest
 
+from tests.process import hard_objects
 from tests.samples import EXIT, MOV, MOV_BIG, WIDE, WIDE_BIG, btf
 
 MEGABYTE = 1 << 20
@@ -25,6 +29,9 @@ STRINGS = 16 * MEGABYTE
 TIMES_THE_TIME = 20
 TIMES_THE_INPUT = 8
 TIMES_THE_PROGRAM = 1.1
+TIMES_THE_OBJECT = 4
+PROCESS = 8 * MEGABYTE  # the address space for a short object file
+AMPLE = 1 << 36
 LARGEST_PROGRAM = 64 * MEGABYTE
 ENUM_VALUES = MEMBERS = 65_535
 # This many structs and as many unions fill a file.
@@ -175,6 +182,42 @@ def largest_programs():
     ]
 
 
+class Object(NamedTuple):
+    """An object file, the greatest processor time of `canon`, `key` and `check`, the cause for which it is refused, and what `check` needs if that
+    is more than the other two."""
+
+    make: Callable[[], bytes]
+    seconds: float
+    cause: bytes = b""
+    times: float = TIMES_THE_OBJECT
+    check_times: float = TIMES_THE_OBJECT
+
+
+# More than four times: the names of a refused file are written up to four times its length before it is known to be too long, into an array that
+# grows by doubling and is stored beside what is noted of each name. `check` stores all that it prints before it writes it.
+OBJECTS = {
+    "64 MiB of code": Object(hard_objects.code, 0.4),
+    "64 MiB of data": Object(hard_objects.data, 0.4),
+    "four million relocations": Object(hard_objects.relocations, 0.5),
+    "relocation sections of the same rows": Object(hard_objects.shared_relocations, 0.01, b"SectionsTooLarge"),
+    "1.6 million names": Object(hard_objects.distinct_symbols, 2.9),
+    "1.6 million ends of strings": Object(hard_objects.symbols_in_strings, 0.5),
+    "1.6 million symbols with one name": Object(hard_objects.symbols_of_one_string, 0.5),
+    "as many ends of a string as fit": Object(lambda: hard_objects.ends_of_a_string(11_500), 0.5),
+    "too many ends of a string": Object(lambda: hard_objects.ends_of_a_string(300_000), 0.07, b"ResultTooLarge", 6, 6),
+    "sections with ends of a string": Object(lambda: hard_objects.long_section_names(1), 0.07),
+    "sections with long names": Object(lambda: hard_objects.long_section_names(60), 0.1, b"ResultTooLarge", 10, 10),
+    "a million names of types": Object(hard_objects.names_of_types, 1.0),
+    "1.6 million groups of functions and lines": Object(hard_objects.groups, 1.0),
+    "three million access strings": Object(lambda: hard_objects.access_strings(5_000), 0.5),
+    "access strings of 14 MiB": Object(lambda: hard_objects.access_strings(14 * MEGABYTE), 0.1, b"ResultTooLarge"),
+    "faults in all sections": Object(hard_objects.faults, 0.1),
+    "faults in sections with a long name": Object(lambda: hard_objects.faults(b"\x1b" * 1_023), 1.1, check_times=32),
+    "a long name of a source file": Object(lambda: hard_objects.faults_with_lines(200_000, 1_000), 0.1),
+    "400,000 lines before those of faults": Object(lambda: hard_objects.faults_with_lines(1_000, 400_000), 0.2),
+}
+
+
 # ---- checks
 
 
@@ -202,3 +245,24 @@ def test_programs(program, number):
     ran = run(program.path, line, given, int(TIMES_THE_PROGRAM * len(given)))
     assert (ran.status, ran.output) == (0, output), line
     assert ran.seconds <= TIMES_THE_TIME * seconds, line
+
+
+def is_right(line, ran, object, canonical):
+    """Whether an answer is that for an object file with this canonical file, or for one that is refused. `run` has messages in the output."""
+    if object.cause:
+        return ran.status == 1 and re.fullmatch(rb"-: byte \d+: %s: [^\n]*\n" % object.cause, ran.output)
+    if line == "check -":
+        return ran.status == (1 if b"Opcode" in ran.output else 0) and b"-: accepted\n" in ran.output
+    return ran.status == 0 and ran.output == (canonical if line == "canon -" else b"%s  -\n" % hashlib.sha256(canonical).hexdigest().encode())
+
+
+@pytest.mark.parametrize("name", OBJECTS)
+def test_objects(object_program, name):
+    object = OBJECTS[name]
+    file = object.make()
+    assert len(file) <= LARGEST_PROGRAM
+    canonical = b"" if object.cause else run(object_program, "canon -", file, AMPLE).output
+    for line, times in ("canon -", object.times), ("key -", object.times), ("check -", object.check_times):
+        ran = run(object_program, line, file, int(times * (len(file) + len(canonical))) + PROCESS)
+        assert is_right(line, ran, object, canonical), f"{line} within {times} times its input: {ran.status} {ran.output[:80]}"
+        assert ran.seconds <= TIMES_THE_TIME * object.seconds, line
