@@ -127,7 +127,7 @@ module _ (x : Object) (valid : ValidObject x) (small : IsSmall x) where
   -- each is kept again
   code_is : (s : KeptSymbol) → IsPlacedIn x s
       → is_code (written_type (section_rows x) s.section) (written_name (section_rows x) (row_count x) s.section) (written_flags (section_rows x) s.section)
-          ≡ (let c = section_of x (s.section - 1) in is_code c.type c.name c.flags)
+      ≡ (let c = section_of x (s.section - 1) in is_code c.type c.name c.flags)
   code_is s its =
       let some = its.section.some in
       let there = its.section.there in
@@ -136,14 +136,14 @@ module _ (x : Object) (valid : ValidObject x) (small : IsSmall x) where
       let lt : i < length x.sections = omega (arith, some, there) in
       subst
       (λ (m : ℕ). is_code (written_type (section_rows x) m) (written_name (section_rows x) (row_count x) m) (written_flags (section_rows x) m)
-          ≡ (let c = section_of x i in is_code c.type c.name c.flags))
+      ≡ (let c = section_of x i in is_code c.type c.name c.flags))
       at
       (code_same _ _ _ _ _ _ (ap (λ (w : WrittenSection). w.type) (kept_row x i lt)) (kept_name_is x valid i lt) (ap (λ (w : WrittenSection). w.flags) (kept_row x i lt)))
 
   placed_label : (s : KeptSymbol) → (is_special s.section ≡ true) ⊎ IsPlacedIn x s
       → (is_label_name s.info s.other s.name
-          && (not (is_special s.section) && is_code (written_type (section_rows x) s.section) (written_name (section_rows x) (row_count x) s.section) (written_flags (section_rows x) s.section)))
-          ≡ is_label_in x s
+      && (not (is_special s.section) && is_code (written_type (section_rows x) s.section) (written_name (section_rows x) (row_count x) s.section) (written_flags (section_rows x) s.section)))
+      ≡ is_label_in x s
   placed_label s (inl special) = special_same (is_label_name s.info s.other s.name) (is_special s.section) _ _ special
   placed_label s (inr its) = ap (λ (c : Bool). is_label_name s.info s.other s.name && (not (is_special s.section) && c)) (code_is s its)
 
@@ -158,7 +158,7 @@ module _ (x : Object) (valid : ValidObject x) (small : IsSmall x) where
       let s = symbol_of x j in
       ap
       (λ (t : List ℕ). is_label_name s.info s.other t
-          && (not (is_special s.section) && is_code (written_type (section_rows x) s.section) (written_name (section_rows x) (row_count x) s.section) (written_flags (section_rows x) s.section)))
+      && (not (is_special s.section) && is_code (written_type (section_rows x) s.section) (written_name (section_rows x) (row_count x) s.section) (written_flags (section_rows x) s.section)))
       (symbol_named_back j lt)
       ∙ placed_label s (valid.symbols j lt).place
 

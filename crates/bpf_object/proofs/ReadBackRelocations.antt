@@ -99,7 +99,7 @@ module _ (b : List ℕ) (o : Order) (flags : ℕ) (s : ℕ → WrittenSection) (
 
   label_there : (x : WrittenSymbol) (named : List ℕ) → has_written_section s n x ≡ true
       → is_label_of b x.info x.other x.section named
-          ≡ (is_label_name x.info x.other named && (not (is_special x.section) && is_code (written_type s x.section) (written_name s n x.section) (written_flags s x.section)))
+      ≡ (is_label_name x.info x.other named && (not (is_special x.section) && is_code (written_type s x.section) (written_name s n x.section) (written_flags s x.section)))
   label_there x named h =
       elim (or_cases (is_special x.section) (nat_lt x.section (n + 1) && (is_local x.info || is_written_data s n x.section)) h) [
         | inl special ↦ special_same (is_label_name x.info x.other named) (is_special x.section) _ _ special
