@@ -10,7 +10,7 @@ import pytest
 
 from tests.judges.conftest import Canon, Refused, Tally, each
 from tests.judges.objects import all_made
-from tests.judges.tools import ask, without_file
+from tests.judges.tools import ask, without_file, without_labels
 from tests.needs import need
 
 SAY_THE_SAME = {
@@ -34,7 +34,7 @@ def test_tool_says_the_same(tool: str, made: bytes, canon: Canon, folder: Path, 
     line = {**SAY_THE_SAME, **WARN_OF_NOTHING}[tool]
     need(line[0])
     one, other = (ask(line, it, folder) for it in (made, canon(made)))
-    texts = [without_file(it.output) if tool in SAY_THE_SAME else "" for it in (one, other)]
+    texts = [without_labels(without_file(it.output)) if tool in SAY_THE_SAME else "" for it in (one, other)]
     is_same = texts[0] == texts[1] and one.status == other.status and set(other.warnings) <= set(one.warnings)
     word = "the same" if tool in SAY_THE_SAME else "no new warning"
     tally[tool].update([f"{word}, {'refused' if one.status else 'accepted'}" if is_same else "other"])
@@ -81,7 +81,8 @@ def rows(data: bytes, folder: Path) -> Iterator[tuple[Any, ...]]:
         table, place = elf.get_section_by_name(".symtab"), {elf.get_section_index(it.name): number for number, it in enumerate(kept)}
         for symbol in table.iter_symbols():
             index, info = symbol["st_shndx"], symbol["st_info"]
-            is_left_out = info["type"] == "STT_FILE" or isinstance(index, int) and index not in place
+            is_label = info["type"] == "STT_NOTYPE" and symbol.name.startswith("LBB")
+            is_left_out = is_label or info["type"] == "STT_FILE" or isinstance(index, int) and index not in place
             if not (info["bind"] == "STB_LOCAL" and is_left_out):
                 yield symbol.name, tuple(info.items()), symbol["st_other"], place.get(index, index), symbol["st_value"], symbol["st_size"]
         for section in (it for it in kept if it["sh_type"] == "SHT_REL"):

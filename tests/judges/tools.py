@@ -33,3 +33,8 @@ def ask(line: tuple[str, ...], content: bytes, folder: Path) -> Said:
 def without_file(skeleton: str) -> str:
     """A skeleton without the object file that it contains."""
     return re.sub(r"\*sz = \d+;|(return \(const void \*\)|data\[\] __attribute__\S+ = )\".*?\";", "", skeleton, flags=re.DOTALL)
+
+
+def without_labels(listing: str) -> str:
+    """A listing of llvm-objdump without labels, by which it names the target of a jump if there is one."""
+    return re.sub(r" <[^<>]*>$|^\n[0-9a-f]+ <LBB\w+>:\n", "", listing, flags=re.MULTILINE)

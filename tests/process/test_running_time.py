@@ -206,7 +206,7 @@ OBJECTS = {
     "as many ends of a string as fit": Object(lambda: hard_objects.ends_of_a_string(11_500), 0.5),
     "too many ends of a string": Object(lambda: hard_objects.ends_of_a_string(300_000), 0.07, b"ResultTooLarge", 6, 6),
     "sections with ends of a string": Object(lambda: hard_objects.long_section_names(1), 0.07),
-    "sections with long names": Object(lambda: hard_objects.long_section_names(60), 0.1, b"ResultTooLarge", 10, 10),
+    "sections with long names": Object(lambda: hard_objects.long_section_names(60), 0.1, b"ResultTooLarge", 12, 12),
     "a million names of types": Object(hard_objects.names_of_types, 1.0),
     "1.6 million groups of functions and lines": Object(hard_objects.groups, 1.0),
     "three million access strings": Object(lambda: hard_objects.access_strings(5_000), 0.5),
