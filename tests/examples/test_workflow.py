@@ -69,7 +69,7 @@ def test_failed_tests_are_repeated(workflow: Workflow) -> None:
 # What is added to the source, and how the annotation begins.
 FAULTS = {
     "an instruction": ('int faulty(void) { __asm__ volatile(".quad 0xffff"); return 0; }', "::error file=./count.c,line=24,"),
-    "a section": ('__asm__(".section notes,\\"\\",@note\\n.byte 0\\n");', "::error file=count.o"),
+    "a section": ('__asm__(".section notes,\\"\\",@preinit_array\\n.byte 0\\n");', "::error file=count.o"),
 }
 
 
