@@ -4,6 +4,8 @@ from __future__ import annotations
 
 import collections
 import contextlib
+import ctypes
+import os
 import subprocess
 from pathlib import Path
 from typing import Any, Callable, Iterable, Iterator
@@ -16,6 +18,7 @@ from tests.needs import need
 Canon = Callable[[bytes], bytes]
 Keys = Callable[[list[bytes]], list[str]]
 Tally = dict[str, collections.Counter[str]]
+CLONE_NEWNS = 0x20000
 TALLY: Tally = collections.defaultdict(collections.Counter)
 
 
@@ -81,6 +84,20 @@ def both(folder: Path) -> Iterator[list[loaders.Loader]]:
     need(*(tool for tools in loaders.NEEDED.values() for tool in tools))
     with contextlib.ExitStack() as stack:
         yield [stack.enter_context(contextlib.closing(loaders.Loader(it, folder))) for it in loaders.NEEDED]
+
+
+@pytest.fixture(scope="session")
+def pins(folder: Path) -> Path:
+    """A folder of pins, which only this process and its children see."""
+    need("bpftool")
+    if os.geteuid() or ctypes.CDLL(None).unshare(CLONE_NEWNS):
+        pytest.skip("only root may load, in a mount namespace of its own")
+    pins = folder / "pins"
+    pins.mkdir()
+    mounts = (["mount", "--make-rprivate", "/"], ["mount", "-t", "bpf", "bpf", str(pins)])
+    if any(subprocess.run(it, capture_output=True, check=False).returncode for it in mounts):
+        pytest.skip("a bpffs can't be mounted")
+    return pins
 
 
 def each(made: Iterable[objects.Made]) -> pytest.MarkDecorator:

@@ -81,8 +81,8 @@ def libbpf(folder: Path) -> list[str]:
     return build(folder, archive)
 
 
-def cilium(folder: Path) -> list[str]:
-    program = folder / "cilium"
+def cilium(folder: Path, name: str = "cilium") -> list[str]:
+    program = folder / name
     own = {**os.environ, **GO, "GOCACHE": os.environ.get("GOCACHE", str(folder / "go-cache"))}
-    subprocess.run(["go", "build", "-o", program, HERE / "cilium.go"], env=own, check=True)
+    subprocess.run(["go", "build", "-o", program, HERE / f"{name}.go"], env=own, check=True)
     return [str(program)]

@@ -2,40 +2,20 @@
 
 from __future__ import annotations
 
-import ctypes
 import json
-import os
 import shutil
 import subprocess
 from pathlib import Path
 from typing import Any, Iterator
 
-import pytest
-
 from tests.judges.conftest import Canon, Tally, each
 from tests.judges.objects import XDP_TOOLS, all_made
-from tests.needs import need
 
-CLONE_NEWNS = 0x20000
 PROGRAM = ("name", "type", "tag", "gpl_compatible", "bytes_xlated")
 MAP = ("name", "type", "flags", "bytes_key", "bytes_value", "max_entries")
 # The kernel refuses the other byte order, and loads of a copy what it loads of the first.
 INSTALLED = [it for it in all_made() if it.source.name.endswith("-el.elf") or it.source.parent == XDP_TOOLS]
 LOADABLE = [*(it for it in all_made() if it.order == "little" and it.tool in ("", "linked")), *INSTALLED]
-
-
-@pytest.fixture(scope="session")
-def pins(folder: Path) -> Path:
-    """A folder of pins, which only this process and its children see."""
-    need("bpftool")
-    if os.geteuid() or ctypes.CDLL(None).unshare(CLONE_NEWNS):
-        pytest.skip("only root may load, in a mount namespace of its own")
-    pins = folder / "pins"
-    pins.mkdir()
-    mounts = (["mount", "--make-rprivate", "/"], ["mount", "-t", "bpf", "bpf", str(pins)])
-    if any(subprocess.run(it, capture_output=True, check=False).returncode for it in mounts):
-        pytest.skip("a bpffs can't be mounted")
-    return pins
 
 
 def ask(*words: str) -> Any:

@@ -295,11 +295,12 @@ def marked(data: bytes) -> bytes:
     return bytes(file.write())
 
 
-OLD, NEW, REFUSED = f"{MARK}old", f"{MARK}new", f"refused{MARK}"
+OLD, NEW, REFUSED, LOG = f"{MARK}old", f"{MARK}new", f"refused{MARK}", f"log{MARK}"
 # What is printed of these names, among other lines.
 PRINTED = {
     "show": (("show", OLD, NEW), f"==> {ESCAPED}old <=="),
     "list": (("list", OLD), f"  {ESCAPED}old"),
+    "a log": (("log", OLD, LOG), f"\n; {ESCAPED}ct flow flow = {{host->id, host->counts[2]}}; @ {ESCAPED}ws.c:41\n0: (61) \\x1b"),
     "source lines": (("diff", OLD, NEW), f"  # not signed: {ESCAPED}ws.c:48: {ESCAPED}l++;"),
     "a refused file": (("list", REFUSED), f"refused{ESCAPED}: byte 0: Magic: "),
     "an argument": (("list", REFUSED, f"--{MARK}"), f"--{ESCAPED}"),
@@ -309,7 +310,7 @@ PRINTED = {
 @pytest.mark.parametrize("case", PRINTED)
 def test_everything_is_escaped(case: str, run: Run, tmp_path: Path) -> None:
     words, text = PRINTED[case]
-    for name, content in (OLD, marked(FLOWS.read_bytes())), (NEW, marked(CHANGED.read_bytes())), (REFUSED, b"#" * 64):
+    for name, content in (OLD, marked(FLOWS.read_bytes())), (NEW, marked(CHANGED.read_bytes())), (REFUSED, b"#" * 64), (LOG, b"\n0: (61) \x1b"):
         (tmp_path / name).write_bytes(content)
     done = run(*words, cwd=tmp_path)
     printed = (done.stdout + done.stderr).decode()

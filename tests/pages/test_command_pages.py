@@ -55,7 +55,7 @@ PAGED = ["bpfcanon-object", "bpfcanon-review"]
 
 def test_commands():
     found = [[*command.commands] for command in ALL.values()]
-    assert found[1:] == [["canon", "key", "same", "check"], ["show", "diff", "list"]]
+    assert found[1:] == [["canon", "key", "same", "check"], ["show", "diff", "list", "log", "store"]]
     assert ALL["bpfcanon-object"].commands["check"] == ["--target", "--format"] and ALL["bpfcanon-review"].commands["show"] == ["--textconv"]
 
 

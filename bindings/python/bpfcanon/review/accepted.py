@@ -112,9 +112,13 @@ class Accepted:
 
     def relocations(self, section: Section) -> Iterator[Row]:
         """Yield the rows of a table of relocations."""
+        for offset, type, symbol in self.relocated(section):
+            yield Row(offset, f"{RELOCATIONS.get(type, type)} {symbol.label}", symbol.section if symbol.type == "SECTION" else 0)
+
+    def relocated(self, section: Section) -> Iterator[tuple[int, int, Symbol]]:
+        """Yield the offset, the type and the symbol of each relocation of a table."""
         for it in self._elf.get_section(section.index).iter_relocations():
-            symbol, type = self.symbols[it["r_info_sym"]], RELOCATIONS.get(it["r_info_type"], it["r_info_type"])
-            yield Row(it["r_offset"], f"{type} {symbol.label}", symbol.section if symbol.type == "SECTION" else 0)
+            yield it["r_offset"], it["r_info_type"], self.symbols[it["r_info_sym"]]
 
     @cached_property
     def types(self) -> Optional[Btf]:

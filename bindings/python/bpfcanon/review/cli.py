@@ -6,6 +6,7 @@ import argparse
 import importlib
 import io
 import os
+import re
 import signal
 import sys
 from typing import Any, NoReturn
@@ -60,15 +61,35 @@ def parser() -> argparse.ArgumentParser:
     made.add_argument("new", metavar="NEW", help="what it is compared with")
     made = add("list", "the key of each object file, and a digest of each function")
     made.add_argument("files", nargs="+", metavar="FILE", help=FILE)
+    made = add("log", "the verifier's log of a canonical file, with the source lines of its original, which no key covers")
+    made.add_argument("--program", default="", metavar="NAME", help="the program of the log")
+    made.add_argument("--key", type=key, metavar="KEY", help="the key of the canonical file: one of another key is refused")
+    made.add_argument("--store", metavar="FOLDER", help="where the file named KEY is the original")
+    made.add_argument("files", nargs="*", metavar="FILE", help="the original, unless it is stored, and the log, or standard input")
+    made = add("store", "copies of object files, each named by its key")
+    made.add_argument("folder", metavar="FOLDER", help="where the copies are")
+    made.add_argument("files", nargs="+", metavar="FILE", help=FILE)
     return top
+
+
+def key(text: str) -> str:
+    """Return the key that an argument is."""
+    if not re.fullmatch("[0-9a-f]{64}", text):
+        raise argparse.ArgumentTypeError("a key has 64 digits, 0 to 9 and a to f")
+    return text
 
 
 def complain(error: BaseException, name: str = "standard output") -> None:
     """Write on standard error the fault of a file, in the form that bpfcanon-object has, or what else went wrong with it."""
     text = "out of memory" if isinstance(error, MemoryError) else getattr(error, "strerror", None) or str(error)
     start = "" if isinstance(error, bpfcanon.FaultError) else f"{NAME}: "
+    say(f"{start}{printable(name)}: {printable(text)}")
+
+
+def say(line: str) -> None:
+    """Write a line on standard error, unless that is closed."""
     if sys.stderr is not None:
-        print(f"{start}{printable(name)}: {printable(text)}", file=sys.stderr)
+        print(line, file=sys.stderr)
 
 
 def main() -> int:

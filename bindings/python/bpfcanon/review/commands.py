@@ -11,11 +11,13 @@ import bpfcanon
 
 from ..objects import MAX_SIZE
 from .accepted import Accepted
-from .cli import complain
+from .cli import complain, say
 from .compare import compare
 from .labels import printable
 from .limits import limited
+from .log import UNSIGNED, Annotator, LogError
 from .parts import parts
+from .store import path_of, store
 
 STANDARD_INPUT = "-"
 T = TypeVar("T")
@@ -76,6 +78,50 @@ def diff(options: argparse.Namespace) -> int:
     return 2 if changes is None else int(bool(changes))
 
 
+def log(options: argparse.Namespace) -> int:
+    """Write a verifier's log of a canonical file with the source lines of its original."""
+    stored = [path_of(options.store, options.key)] if options.store and options.key else []
+    names = [*stored, *options.files, STANDARD_INPUT]
+    if not 2 <= len(names) <= 3 or len(stored) != bool(options.store):
+        complain(ValueError("the files are ORIGINAL and LOG, or LOG and the options --store and --key"), "log")
+        return 2
+    found = attempt(names[0], lambda: Accepted(read(names[0])))
+    if found and options.key not in (None, found.key):
+        complain(ValueError(f"its key is {found.key}"), names[0])
+        return 1
+    return logged(found, names, options) if found else 2
+
+
+def logged(original: Accepted, names: list[str], options: argparse.Namespace) -> int:
+    """Write a log; its original and it have the first two names."""
+    if not options.key:
+        say(f"{original.key}  {printable(names[0])}")
+    lines = attempt(names[1], lambda: [*Annotator(original, options.program).lines(read_log(names[1]))])
+    if lines is not None:
+        sys.stdout.writelines(f"{it}\n" for it in (f"{UNSIGNED}{printable(names[0])}", *lines))
+    return 2 if lines is None else 0
+
+
+def read_log(path: str) -> bytes:
+    """Return the contents of a log. Raises OSError, LogError."""
+    text = read(path)
+    if len(text) > MAX_SIZE:
+        raise LogError(f"it is longer than {MAX_SIZE} bytes")
+    return text
+
+
+def store_files(options: argparse.Namespace) -> int:
+    """Copy each file into the folder, and write its key, in lines as those of sha256sum."""
+    return for_each(options.files, lambda path: stored_file(options.folder, path))
+
+
+def stored_file(folder: str, path: str) -> Iterator[str]:
+    """Copy a file, and yield its line."""
+    found = Accepted(read(path))
+    store(folder, found)
+    yield f"{found.key}  {printable(path)}"
+
+
 def attempt(name: str, call: Callable[[], T]) -> Optional[T]:
     """Return what a call returns within the limits, or None after a message."""
     try:
@@ -92,4 +138,4 @@ def read(path: str) -> bytes:
         return file.read(MAX_SIZE + 1)
 
 
-COMMANDS = {"show": show, "diff": diff, "list": list_keys}
+COMMANDS = {"show": show, "diff": diff, "list": list_keys, "log": log, "store": store_files}

@@ -29,3 +29,8 @@ class Labels:
 def printable(text: str) -> str:
     """Return a text from a file without anything that a terminal or a log would act on."""
     return text if text.isprintable() else text.encode("unicode_escape", "surrogateescape").decode()
+
+
+def printable_line(text: str) -> str:
+    """Return a line of a text, in which tabs are what they are."""
+    return text if text.replace("\t", " ").isprintable() else printable(text)
