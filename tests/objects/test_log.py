@@ -171,6 +171,8 @@ def test_store(run: Run, tmp_path: Path) -> None:
     assert done.returncode == 2 and done.stdout.count(KEY.encode()) == 2
     stored = {it.name: it.read_bytes() for it in (tmp_path / "store").iterdir()}
     assert stored[KEY] == CALLS.read_bytes() != canonical and len(stored) == 2
+    done = run("store", "canonical.o", CALLS, cwd=tmp_path)
+    assert (done.returncode, done.stdout, done.stderr) == (2, b"", f"bpfcanon-review: {CALLS}: canonical.o: File exists\n".encode())
 
 
 def test_long_log(review: Review) -> None:

@@ -16,13 +16,15 @@ def path_of(folder: str, key: str) -> str:
 
 def store(folder: str, object: Accepted) -> None:
     """Copy an original into a folder, which is made if there is none. A process that reads it meanwhile finds the former one. Raises OSError."""
-    os.makedirs(folder, exist_ok=True)
     path = path_of(folder, object.key)
     temporary = f"{path}.{secrets.token_hex(8)}"
     try:
+        os.makedirs(folder, exist_ok=True)
         with open(temporary, "xb") as file:
             file.write(object.original)
         os.replace(temporary, path)
+    except OSError as error:
+        raise OSError(f"{folder}: {error.strerror}") from error
     finally:
-        with contextlib.suppress(FileNotFoundError):
+        with contextlib.suppress(OSError):
             os.unlink(temporary)
