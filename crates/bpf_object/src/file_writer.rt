@@ -37,9 +37,21 @@ impl<A: Allocator> Model for FileWriter<A> {
 
     ghost Value = { FileSoFar };
 
-    ghost view = { λ w. record { order = w.order; limit = w.limit; out = w.out.items; headers = w.headers.items; count = w.count } };
+    ghost view = { λ w. record {
+      order = w.order;
+      limit = w.limit;
+      out = w.out.items;
+      headers = w.headers.items;
+      count = w.count;
+    } };
 
-    ghost invariant = { λ w. HasRoom (record { order = w.order; limit = w.limit; out = w.out.items; headers = w.headers.items; count = w.count }) };
+    ghost invariant = { λ w. HasRoom (record {
+      order = w.order;
+      limit = w.limit;
+      out = w.out.items;
+      headers = w.headers.items;
+      count = w.count;
+    }) };
 }
 
 /// The length of a content of n bytes with its padding.
@@ -121,7 +133,8 @@ fn file_header<A: Allocator + Copy>(
     count: u16,
 ) -> Result<Vec<u8, A>, AllocError>
     requires { 0 < count }
-    ensures value { IfOk result (λ header. header.items ≡ ident order ++ encode order (spec.header_fields flags table count)) }
+    ensures value { IfOk result (λ header. header.items
+        ≡ ident order ++ encode order (spec.header_fields flags table count)) }
     ensures len { IfOk result (λ header. length header.items ≡ 64) }
 {
     let mut header = Vec::new(alloc);
@@ -180,8 +193,10 @@ impl<A: Allocator + Copy> FileWriter<A> {
         section: &SectionHeader,
         content: &[u8],
     ) -> Result<(), ObjectError>
-        ensures { (limit : ℕ) (ss : List WrittenSection) → Holds limit ss self.old → let more = ss ++ section_of section.now content.now ∷ [] in
-            MatchResult result (λ _. Holds limit more self.new × (self.new.order ≡ self.old.order)) (FailsToHold limit more) }
+        ensures { (limit : ℕ) (ss : List WrittenSection) → Holds limit ss self.old
+            → let more = ss ++ section_of section.now content.now ∷ [] in
+            MatchResult result (λ _. Holds limit more self.new × (self.new.order ≡ self.old.order))
+            (FailsToHold limit more) }
     {
         let offset = self.out.len();
         let room = self.limit - offset;

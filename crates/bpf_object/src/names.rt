@@ -34,8 +34,10 @@ fn append_text<'a, A: Allocator + Copy>(
     text: &'a [u8],
     offset: u32,
 ) -> Result<(), AllocError>
-    ensures { MatchResult result (λ _. spec.PushesText bytes.old.items bytes.new.items by_text.old by_text.new text.now offset)
-        (λ _. (take (length bytes.old.items) bytes.new.items ≡ bytes.old.items) × (by_text.new.entries ≡ by_text.old.entries)) }
+    ensures { MatchResult result (λ _. spec.PushesText bytes.old.items bytes.new.items
+        by_text.old by_text.new text.now offset)
+        (λ _. (take (length bytes.old.items) bytes.new.items ≡ bytes.old.items)
+        × (by_text.new.entries ≡ by_text.old.entries)) }
 {
     bytes.extend_from_slice(text)?;
     bytes.push(0)?;
@@ -50,7 +52,8 @@ fn push_text<'a, A: Allocator + Copy>(
     text: &'a [u8],
     offset: u32,
 ) -> Result<(), AllocError>
-    ensures { MatchResult result (λ _. spec.PushesText bytes.old.items bytes.new.items by_text.old by_text.new text.now offset)
+    ensures { MatchResult result (λ _. spec.PushesText bytes.old.items bytes.new.items
+        by_text.old by_text.new text.now offset)
         (λ _. (bytes.new.items ≡ bytes.old.items) × (by_text.new.entries ≡ by_text.old.entries)) }
 {
     let len = bytes.len();
@@ -96,9 +99,14 @@ impl<'a, A: Allocator> Model for Names<'a, A> {
 
     ghost Value = { Strings };
 
-    ghost view = { λ n. record { texts = strings_in n.bytes.items; source = n.source.now; limit = n.limit } };
+    ghost view = { λ n. record {
+      texts = strings_in n.bytes.items;
+      source = n.source.now;
+      limit = n.limit;
+    } };
 
-    ghost invariant = { λ n. IsStringTable n.bytes.items n.by_text n.source.now n.by_offset n.limit };
+    ghost invariant = { λ n. IsStringTable n.bytes.items n.by_text n.source.now
+        n.by_offset n.limit };
 }
 
 impl<'a, A: Allocator + Copy> Names<'a, A> {
@@ -157,7 +165,11 @@ impl<'a, A: Allocator + Copy> Names<'a, A> {
 
     /// Reads strings from another table from now on.
     pub(crate) fn read_from(self, alloc: A, source: &'a [u8]) -> Names<'a, A>
-        ensures { result ≡ record { texts = self.entry.texts; source = source.now; limit = self.entry.limit } }
+        ensures { result ≡ record {
+          texts = self.entry.texts;
+          source = source.now;
+          limit = self.entry.limit;
+        } }
     {
         let Names {
             bytes,

@@ -171,8 +171,10 @@ fn write_last<A: Allocator + Copy>(
     flags: u32,
 ) -> Result<Vec<u8, A>, ObjectError>
     ensures { (limit : ℕ) (ss : List WrittenSection) → Holds limit ss file
-        → let more = ss ++ (section_of symtab.now rows.now ∷ section_of strtab.now table.now ∷ []) in
-        MatchResult result (λ out. IsFileOf limit file.order flags more out.items) (FailsToHold limit more) }
+        → let more = ss
+        ++ (section_of symtab.now rows.now ∷ section_of strtab.now table.now ∷ []) in
+        MatchResult result (λ out. IsFileOf limit file.order flags more out.items)
+        (FailsToHold limit more) }
 {
     file.push(symtab, rows)?;
     file.push(strtab, table)?;
@@ -191,10 +193,12 @@ fn write_tail<'a, A: Allocator + Copy>(
     requires before { before.now ≡ numbers (is_kept_section elf.now) (count elf.now) }
     requires limit { names.limit ≡ spec_result_limit (length elf.now) }
     requires small { symtab < 2 ^ 17 }
-    ensures { (ss : List WrittenSection) → let limit = spec_result_limit (length elf.now) in Holds limit ss file
+    ensures { (ss : List WrittenSection) → let limit = spec_result_limit (length elf.now) in
+        Holds limit ss file
         → let all = names.entry.texts ++ spec.last_names elf.now in
         let more = ss ++ spec.last_written elf.now (symtab + 1) all in
-        MatchResult result (λ out. IsFileOf limit file.order (flags_of elf.now) more out.items) (spec.FailsToWrite limit all more) }
+        MatchResult result (λ out. IsFileOf limit file.order (flags_of elf.now) more out.items)
+        (spec.FailsToWrite limit all more) }
 {
     let symbols_name = names.text(b".symtab")?;
     let strings_name = names.text(b".strtab")?;
@@ -217,7 +221,8 @@ pub(crate) fn write_object<A: Allocator + Copy>(
 ) -> Result<Vec<u8, A>, ObjectError>
     requires { IsElf elf.now }
     ensures { (t : Option ObjectTypes)
-        → spec.AreContents (order_of elf.now) t (content_of types.entry) (content_of extension.entry)
+        → spec.AreContents (order_of elf.now) t
+        (content_of types.entry) (content_of extension.entry)
         → MatchResult result
         (λ out. (spec.fits elf.now t ≡ true) × (out.items ≡ canonical (object_of elf.now t)))
         (FailsToFit (spec.fits elf.now t)) }

@@ -70,7 +70,8 @@ fn new_header(
     requires there { i < count elf.now }
     requires numbers { before.now ≡ numbers (spec_is_kept elf.now) (count elf.now) }
     ensures { (place : List ℕ → ℕ) → name_offset ≡ place (sections.name elf.now i)
-        → section_of result (kept_content elf.now i) ≡ written_section (order_of elf.now) place symtab (kept_section elf.now i) }
+        → section_of result (kept_content elf.now i)
+        ≡ written_section (order_of elf.now) place symtab (kept_section elf.now i) }
 {
     let section = elf.section(i);
     SectionHeader {
@@ -94,7 +95,8 @@ fn push_content<A: Allocator + Copy>(
     requires numbers { symbols.now ≡ numbers (is_kept_symbol elf.now) (symbol_count elf.now) }
     ensures { (limit : ℕ) (ss : List WrittenSection) → Holds limit ss file.old
         → let more = ss ++ section_of header.now (kept_content elf.now i) ∷ [] in
-        MatchResult result (λ _. Holds limit more file.new × (file.new.order ≡ file.old.order)) (FailsToHold limit more) }
+        MatchResult result (λ _. Holds limit more file.new × (file.new.order ≡ file.old.order))
+        (FailsToHold limit more) }
 {
     if is_table(elf, i) {
         let mut rows = Vec::new(alloc);
@@ -147,7 +149,8 @@ fn push_if_kept<'a, A: Allocator + Copy>(
     requires numbers { symbols.now ≡ numbers (is_kept_symbol elf.now) (symbol_count elf.now) }
     requires source { names.old.source ≡ sections.content elf.now (names_section elf.now) }
     requires limit { names.old.limit ≡ result_limit (length elf.now) }
-    ensures { spec.Writes (result_limit (length elf.now)) (spec.name_if elf.now i) (spec.written_if elf.now symtab i)
+    ensures { spec.Writes (result_limit (length elf.now)) (spec.name_if elf.now i)
+        (spec.written_if elf.now symtab i)
         names.old names.new file.old file.new result }
 {
     if !is_kept_section(elf, i) {
@@ -170,7 +173,9 @@ pub(crate) fn push_sections<'a, A: Allocator + Copy>(
     requires numbers { symbols.now ≡ numbers (is_kept_symbol elf.now) (symbol_count elf.now) }
     requires source { names.old.source ≡ sections.content elf.now (names_section elf.now) }
     requires limit { names.old.limit ≡ result_limit (length elf.now) }
-    ensures { spec.Writes (result_limit (length elf.now)) (spec.section_names elf.now (count elf.now)) (spec.written_first elf.now symtab (count elf.now))
+    ensures { spec.Writes (result_limit (length elf.now))
+        (spec.section_names elf.now (count elf.now))
+        (spec.written_first elf.now symtab (count elf.now))
         names.old names.new file.old file.new result }
 {
     for i in 0..elf.section_count() {

@@ -75,7 +75,8 @@ fn push_symbol<'a, A: Allocator + Copy>(
     requires before { before.now ≡ spec.numbers (spec.is_kept_section elf.now) (count elf.now) }
     requires source { names.old.source ≡ symbol_strings elf.now }
     requires limit { names.old.limit ≡ result_limit (length elf.now) }
-    ensures { writer.WritesRows (result_limit (length elf.now)) (symbol_name elf.now j ∷ []) (λ place. symbol_bytes (order_of elf.now) place (spec.kept_symbol elf.now j))
+    ensures { writer.WritesRows (result_limit (length elf.now)) (symbol_name elf.now j ∷ [])
+        (λ place. symbol_bytes (order_of elf.now) place (spec.kept_symbol elf.now j))
         names.old names.new out.old.items out.new.items result }
 {
     let symbol = elf.symbol(j);
@@ -97,7 +98,8 @@ fn push_if_kept<'a, A: Allocator + Copy>(
     requires before { before.now ≡ spec.numbers (spec.is_kept_section elf.now) (count elf.now) }
     requires source { names.old.source ≡ symbol_strings elf.now }
     requires limit { names.old.limit ≡ result_limit (length elf.now) }
-    ensures { writer.WritesRows (result_limit (length elf.now)) (writer.symbol_name_if elf.now j) (writer.symbol_if elf.now j)
+    ensures { writer.WritesRows (result_limit (length elf.now)) (writer.symbol_name_if elf.now j)
+        (writer.symbol_if elf.now j)
         names.old names.new out.old.items out.new.items result }
 {
     if !elf.is_kept_symbol(j) {
@@ -116,7 +118,9 @@ pub(crate) fn push_symbols<'a, A: Allocator + Copy>(
     requires before { before.now ≡ spec.numbers (spec.is_kept_section elf.now) (count elf.now) }
     requires source { names.old.source ≡ symbol_strings elf.now }
     requires limit { names.old.limit ≡ result_limit (length elf.now) }
-    ensures { writer.WritesRows (result_limit (length elf.now)) (writer.symbol_names elf.now (symbol_count elf.now)) (writer.symbols_first elf.now (symbol_count elf.now))
+    ensures { writer.WritesRows (result_limit (length elf.now))
+        (writer.symbol_names elf.now (symbol_count elf.now))
+        (writer.symbols_first elf.now (symbol_count elf.now))
         names.old names.new out.old.items out.new.items result }
 {
     for j in 0..elf.symbol_count() {
