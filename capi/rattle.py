@@ -110,7 +110,8 @@ def compile_crate(crate: str, processor: str, target: pathlib.Path, is_beside: b
     kit = find_kit()
     bring_libraries(crate, read_crates(), is_beside)
     words: list[str | pathlib.Path] = [kit / "bin" / "rattle", "build", *words_for(crate), "--list-axioms"]
-    words += ["--toolchain", kit / "toolchain", "--backend", "llvm", *PROCESSORS[processor]]
+    # A second job shortens the longest way of the gate after a change of a program, and costs little where others run beside.
+    words += ["--jobs", "2", "--toolchain", kit / "toolchain", "--backend", "llvm", *PROCESSORS[processor]]
     if subprocess.run([*words, "-o", target], cwd=TOP / "crates" / crate).returncode != 0:
         raise Failed(f"{crate} isn't built for {processor}")
 

@@ -198,9 +198,10 @@ class Crate:
         return [*groups, *([it] for it in alone)]
 
     def refused(self) -> tuple[list[Mutation], int]:
-        """Those that are refused, and how many of them in this run."""
-        known = [it for it in self.mutations if self.mark(it).exists()]
-        passed, groups = [*known], self.groups([it for it in self.mutations if it not in known])
+        """Those that are refused, and how many were tried in this run."""
+        passed = [it for it in self.mutations if self.mark(it).exists()]
+        new = [it for it in self.mutations if it not in passed]
+        groups = self.groups(new)
         while groups:
             group, began = groups.pop(0), time.monotonic()
             found = self.check(group)
@@ -212,7 +213,7 @@ class Crate:
             passed += seen
             if len(group) > 1:
                 groups += [rest] if seen and rest else [[it] for it in rest]
-        return passed, len(passed) - len(known)
+        return passed, len(new)
 
     def write_goals(self) -> tuple[list[Mutation], int]:
         """Tries each that names no goal, and writes the goals that it opens."""
