@@ -4,11 +4,8 @@ insn_reference.py and btf_reference.py check bytes by the tables of the pages. H
 vectors again with one of its fields changed, which is passed to the command too.
 """
 
-import re
-
 from tests.command import Ran
 from tests.reference import btf_reference, insn_reference
-from tests.reference.formats_page import fitted, table
 from tests.vector_rows import data, rows, text
 
 # What a field of an instruction is changed to.
@@ -82,23 +79,6 @@ def test_groups(program):
         right = sorted(included[insn_reference.group_of(form)])
         ran = program.run("insn-groups", data(little))
         assert sorted(ran.output.decode().split()) == right, f"{little}: it needs {ran.output}, and the page says {right}"
-
-
-def test_not_covered(program):
-    """The rows of docs/SCOPE.md on instructions: their opcodes, immediates and offsets are in brackets."""
-    for what, refusal in table("Unsupported inputs", "Input", "Refusal"):
-        found = re.search(r"\((?:(imm) )?((?:[0-9a-f]{2,3}(?:, )?)+)(?: with offset (\d+))?\)", what)
-        codes = found[2].split(", ") if found else re.findall(r"\(([0-9a-f]{2})\)", what)
-        codes = re.findall(r"\(([0-9a-f]{2})\)", what) if found and not found[1] and not found[3] and ", " not in found[2] else codes
-        for code in codes:
-            opcode, imm = (0xDB, int(code, 16)) if found[1] else (int(code, 16), 0)
-            insn = insn_reference.Insn(opcode, 1, 1, int(found[3] or 0), imm)
-            given = insn_reference.bytes_of(insn, False, "little")
-            cause = fitted(refusal, r"`(\w+)`")[0]
-            fault = insn_reference.decoded(given, "little")[1]
-            assert fault is not None and fault[1] == cause, f"{what}: {code}: the tables say {fault}"
-            message = f"fault {fault[0]} {cause}\n".encode() if fault else b""
-            assert program.run("insn-canon", given) == Ran(1, b"", message), f"{what}: {code}"
 
 
 # ---- BTF
