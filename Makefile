@@ -146,6 +146,7 @@ tools:
 
 lint:
 	$(PYTHON) -m compileall -q tests bindings/python packaging docs
+	! command -v pyflakes3 > out/found || pyflakes3 conftest.py tests bindings/python packaging docs tools bench
 	for it in $$(git ls-files -s | sed -n 's/^100755.*\t//p'); do case $$(head -1 $$it) in *bash*|*/sh) bash -n $$it || exit 1;; esac; done
 	! command -v gofmt > out/found || test -z "$$(gofmt -l bindings/go examples tests | tee /dev/stderr)"
 	! command -v rustfmt > out/found || rustfmt --edition 2021 --config-path bindings/rust --check $$(git ls-files 'bindings/rust/*.rs' 'examples/*.rs')

@@ -4,7 +4,7 @@
     pages/        compare the pages with the sources, and run what they show
     sources/      read the sources
     reference/    modules, and no tests: readers of the tables of docs/FORMATS.md and docs/FAULTS.md, and checkers made of them
-    languages/    the packages for Go, Rust and Python, and their readers of the vectors, over wrong vectors and wrong answers
+    languages/    the packages for Go, Rust and Python
     c_interface/  the C library
     examples/     follow the pages of examples/, and try to deceive the loaders there
     judges/       compare canonical object files with what libbpf, cilium/ebpf, the kernel and other tools say of the originals

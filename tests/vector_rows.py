@@ -3,7 +3,6 @@
 from tests import TOP
 
 TESTDATA = TOP / "testdata"
-# The file that is read. Tests of its readers assign another one.
 VECTORS = TESTDATA / "vectors.tsv"
 # The fields of each kind of row after the kind, as the README names them.
 COLUMNS = {

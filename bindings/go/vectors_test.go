@@ -20,17 +20,9 @@ type vector struct {
 	fields []string
 }
 
-// The file with the vectors, or the one that BPFCANON_VECTORS names.
-func vectorsFile() string {
-	if path := os.Getenv("BPFCANON_VECTORS"); path != "" {
-		return path
-	}
-	return filepath.Join("..", "..", "testdata", "vectors.tsv")
-}
-
 func numberedVectors(t testing.TB, kind string) (rows []vector) {
 	t.Helper()
-	file, err := os.ReadFile(vectorsFile())
+	file, err := os.ReadFile(filepath.Join("..", "..", "testdata", "vectors.tsv"))
 	if err != nil {
 		t.Fatal(err)
 	}

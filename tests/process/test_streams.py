@@ -13,7 +13,7 @@ import threading
 import pytest
 
 from tests.command import SECONDS, Ran
-from tests.samples import CALL_BY_REGISTER, EXIT, INT_BIG, LOOSE_INT, MOV, MOV_BIG, SOURCE_BESIDE_IMMEDIATE, btf
+from tests.samples import CALL_BY_REGISTER, EXIT, INT_BIG, LOOSE_INT, MOV, MOV_BIG, SOURCE_BESIDE_IMMEDIATE
 
 READ_FAILED = Ran(3, b"", b"read failed\n")
 WRITE_FAILED = Ran(3, b"", b"write failed\n")

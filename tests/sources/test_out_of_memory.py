@@ -52,22 +52,9 @@ def wrong_lines(source):
 
 
 FILES = [path for path in sorted(CRATES.glob("*/src/**/*.rt")) if "tests" not in str(path.relative_to(CRATES))]
-INVENTED = """\
-        return Err(BtfError::Memory); // ≡
-    Memory,
-use crate::BtfError::Memory as Full;
-    None => Err(AllocError),
-    _ => Outcome::Memory,
-    BtfError::Memory => Outcome::BtfFault(fault),
-    Ending::Memory => with_status(0),""".splitlines()
 
 
 @pytest.mark.parametrize("path", FILES, ids=lambda path: str(path.relative_to(CRATES)))
 def test_source(path):
     """Out of memory is passed on."""
     assert wrong_lines(path.read_text()) == []
-
-
-@pytest.mark.parametrize("line", INVENTED)
-def test_invented(line):
-    assert wrong_lines(f"fn body()\n{line}\n")

@@ -13,24 +13,12 @@ from tests import TOP
 
 # A part of a path, before or behind a dot: «proofs» is the same name.
 NAMED = re.compile(r"\bTheConstants\b|\.«?(?:proofs|contracts)\b|\b(?:proofs|contracts)»?\.\w")
-IMPORTS = [
-    "use Rattle.btf_raw.specs.declared.kinds.TheConstants.{CONST as ten}",
-    "use Rattle.btf_raw.specs.declared.kinds.«TheConstants».{CONST}",
-    "use Rattle.btf_raw.{proofs.Frames.ten}",
-    "use Rattle.btf_raw as raw\n\nten = raw.proofs.Frames.ten",
-    "use Rattle.btf_raw.specs.contracts.kinds.{ten}",
-]
 
 
 @pytest.mark.parametrize("file", sorted(TOP.glob("crates/*/specs/**/*.antt")), ids=lambda file: str(file.relative_to(TOP)))
 def test_definitions(file):
     """A definition gives each number itself."""
     assert NAMED.search(file.read_text()) is None
-
-
-@pytest.mark.parametrize("text", IMPORTS)
-def test_import(text):
-    assert NAMED.search(text)
 
 
 @pytest.mark.parametrize("file", sorted(TOP.glob("crates/*/specs/**/private/*.antt")), ids=lambda file: str(file.relative_to(TOP)))

@@ -1,7 +1,5 @@
 """Tests each call against its rows of testdata/vectors.tsv. testdata/README.md describes the columns."""
 
-import os
-import pathlib
 import unittest
 from typing import Callable
 
@@ -15,8 +13,7 @@ ORDERS = [Order.LITTLE, Order.BIG]
 EXIT = bytes.fromhex("9500000000000000")
 BRINGS = {Group.BASE64: Group.BASE32, Group.ATOMIC64: Group.ATOMIC32, Group.DIVMUL64: Group.DIVMUL32}
 
-# The file with the vectors, or the one that BPFCANON_VECTORS names.
-VECTORS = pathlib.Path(os.environ.get("BPFCANON_VECTORS", TESTDATA / "vectors.tsv"))
+VECTORS = TESTDATA / "vectors.tsv"
 
 
 def numbered(kind: str) -> list[tuple[int, list[str]]]:

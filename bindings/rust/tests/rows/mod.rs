@@ -4,14 +4,14 @@
 #![allow(dead_code)]
 
 use bpfcanon::Order;
+use std::fs;
 use std::panic::{catch_unwind, AssertUnwindSafe};
-use std::{env, fs};
 
 pub const ORDERS: [Order; 2] = [Order::Little, Order::Big];
 
-/// The fields of each row of a kind in vectors.tsv, or in the file that BPFCANON_VECTORS names.
+/// The fields of each row of a kind in vectors.tsv.
 fn numbered(kind: &str) -> Vec<(usize, Vec<String>)> {
-    read_rows(env::var("BPFCANON_VECTORS").unwrap_or_else(|_| path_of("vectors.tsv")), kind)
+    read_rows(path_of("vectors.tsv"), kind)
 }
 
 /// The fields of each row of a kind, without the kind, after the row's line in the file.
