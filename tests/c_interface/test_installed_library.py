@@ -12,7 +12,9 @@ from tests.command import SECONDS
 
 CAPI = TOP / "capi"
 HEADER = (CAPI / "bpfcanon.h").read_text()
-SYMBOLS = TOP / "tests" / "c_interface" / "symbols.txt"
+# The calls with the version that added each. A program asks the loader for the pairs of the version that it was linked with, so a line of a
+# version that was released never changes, and none is removed.
+SYMBOLS = TOP / "debian" / "libbpfcanon0.symbols"
 VERSION = re.search(r'^#define BPFCANON_VERSION "(.*)"$', HEADER, re.MULTILINE)[1]
 MAJOR = VERSION.partition(".")[0]
 STANDARDS = {"c": ["c89", "c99", "c11", "c17", "gnu17"], "c++": ["c++98", "c++11", "c++14", "c++17", "c++20"]}
@@ -69,10 +71,8 @@ def test_exports(shared):
     assert LISTED == declared()
     rows = [line.split()[1:] for line in printed(["nm", "-D", "--defined-only", "--with-symbol-versions", shared])]
     assert sorted(rows) == sorted([["A", NODE], *(["T", f"{name}@@{NODE}"] for name in LISTED)])
-    kept = [line.split() for line in SYMBOLS.read_text().splitlines() if not line.startswith("#")]
-    assert {f"{name}@@{version}" for version, name in kept} == {row[1] for row in rows if row[0] == "T"}
-    debian = re.findall(r"^ (bpfcanon_\w+)@", (TOP / "debian" / "libbpfcanon0.symbols").read_text(), re.MULTILINE)
-    assert debian == LISTED
+    kept = re.findall(r"^ (bpfcanon_\w+)@(\S+) ", SYMBOLS.read_text(), re.MULTILINE)
+    assert [f"{name}@@{version}" for name, version in kept] == sorted(row[1] for row in rows if row[0] == "T")
 
 
 def test_static(static):
