@@ -10,7 +10,6 @@ import (
 	"unicode/utf8"
 
 	"bpfcanon"
-	"bpfcanon/examples/typed_lines/listing"
 )
 
 // `go test -run Changed -args -changes=1000000` tries more.
@@ -32,7 +31,7 @@ func checkTypes(t *testing.T, file []byte) bool {
 		t.Errorf("%d types, want %d", b.Len(), count)
 	}
 	shown, err := bpfcanon.ShowBTF(file)
-	wantBytes(t, "decoded types", []byte(listing.Types(b.Types())), err, shown)
+	wantBytes(t, "decoded types", []byte(typeListing(b.Types())), err, shown)
 	for id := bpfcanon.ID(1); int(id) <= b.Len(); id++ {
 		checkReferences(t, b, id)
 	}
@@ -83,7 +82,7 @@ func checkInsns(t *testing.T, order bpfcanon.Order, program []byte) bool {
 		return false
 	}
 	shown, err := bpfcanon.ShowInsns(order, program)
-	wantBytes(t, "decoded instructions", []byte(listing.Insns(decoded.Insns())), err, shown)
+	wantBytes(t, "decoded instructions", []byte(insnListing(decoded.Insns())), err, shown)
 	for _, to := range orders {
 		want, err := bpfcanon.CanonInsns(order, to, program)
 		if err != nil {

@@ -10,7 +10,6 @@ import (
 	"testing"
 
 	"bpfcanon"
-	"bpfcanon/examples/typed_lines/listing"
 )
 
 // A row of testdata/vectors.tsv: its line in the file, and its fields without the kind.
@@ -110,7 +109,7 @@ func brings(group string) string {
 func wantDecoded(t *testing.T, line string, order bpfcanon.Order, programs [][]byte, group string) {
 	t.Helper()
 	decoded, err := bpfcanon.DecodeInsns(order, programs[order])
-	if err != nil || listing.Insns(decoded.Insns()) != line+"\n" {
+	if err != nil || insnListing(decoded.Insns()) != line+"\n" {
 		t.Errorf("%s: decoded %v, %v", line, decoded, err)
 		return
 	}
@@ -218,7 +217,7 @@ func TestTypes(t *testing.T) {
 				t.Errorf("%s, decoded: %v", row[0], err)
 				continue
 			}
-			wantBytes(t, row[0]+", decoded", []byte(listing.Types(decoded.Types())), nil, text(t, row[5]))
+			wantBytes(t, row[0]+", decoded", []byte(typeListing(decoded.Types())), nil, text(t, row[5]))
 			for _, to := range orders {
 				got, err := bpfcanon.EncodeBTF(to, decoded.Types())
 				wantBytes(t, row[0]+", encoded", got, err, canonical[to])

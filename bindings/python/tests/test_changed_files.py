@@ -13,8 +13,8 @@ from typing import Callable, Iterator, Optional
 
 import bpfcanon
 from bpfcanon import Btf, FaultError, Order, Program, TypeCycleError
-from examples.typed_lines import insn_listing, type_listing
 
+from .listing import insn_listing, type_listing
 from .samples import load
 from .test_vectors import ORDERS, data, rows
 

@@ -5,8 +5,8 @@ from typing import Callable
 
 import bpfcanon
 from bpfcanon import Btf, BtfCause, FaultError, Group, InsnCause, LineCause, Order, Program
-from examples.typed_lines import insn_listing, type_listing
 
+from .listing import insn_listing, type_listing
 from .samples import TESTDATA
 
 ORDERS = [Order.LITTLE, Order.BIG]

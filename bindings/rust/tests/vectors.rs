@@ -1,16 +1,14 @@
 //! The rows of testdata/vectors.tsv; testdata/README.md has the columns.
 
+mod listing;
 mod rows;
-#[allow(dead_code)] // its main
-#[path = "../examples/typed_lines.rs"]
-mod typed_lines;
 
 use bpfcanon::btf::Btf;
 use bpfcanon::insn::Program;
 use bpfcanon::{btf, insn, Error, Fault, Order};
+use listing::{insn_listing, type_listing};
 use rows::{data, each_row, rows, text, ORDERS};
 use std::fmt::Debug;
-use typed_lines::{insn_listing, type_listing};
 
 /// The names of a group and of the group that it includes.
 fn brings(group: &str) -> String {

@@ -1,19 +1,11 @@
-#!/usr/bin/env python3
-"""Prints the listing of a program or of a BTF file, made of decoded values. docs/FORMATS.md has the lines.
-
-usage: typed_lines.py insn little|big FILE
-       typed_lines.py btf FILE
-"""
+"""The listings of decoded values, without the calls of the library that write them. docs/FORMATS.md has the lines."""
 
 from __future__ import annotations
 
-import pathlib
 import re
-import sys
 from dataclasses import fields
 from typing import Any, Callable, Iterable
 
-from bpfcanon import BpfcanonError, Btf, Order, Program
 from bpfcanon import insn_types as insn
 from bpfcanon import types as btf
 from bpfcanon.insn_types import Imm, MovsxForm, Operand, Reg, Size, SmallSize, SwapKind, Width
@@ -105,20 +97,3 @@ def insn_listing(program: Iterable[insn.Insn]) -> str:
 def type_listing(types: Iterable[btf.Type]) -> str:
     """The listing of types, of which the first has the ID 1."""
     return "".join(f"[{id}] {type_line(it)}\n" for id, it in enumerate(types, 1))
-
-
-def main(words: list[str]) -> None:
-    try:
-        if len(words) == 3 and words[0] == "insn" and words[1] in ("little", "big"):
-            text = insn_listing(Program(pathlib.Path(words[2]).read_bytes(), order=Order[words[1].upper()]))
-        elif len(words) == 2 and words[0] == "btf":
-            text = type_listing(Btf(pathlib.Path(words[1]).read_bytes())[1:])
-        else:
-            sys.exit(__doc__)
-        sys.stdout.buffer.write(text.encode())
-    except (BpfcanonError, OSError) as error:
-        sys.exit(f"typed_lines: {error}")
-
-
-if __name__ == "__main__":
-    main(sys.argv[1:])

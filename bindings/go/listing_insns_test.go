@@ -1,6 +1,4 @@
-// Package listing writes listings of decoded values, without the calls of the library that write them.
-// docs/FORMATS.md has the lines.
-package listing
+package bpfcanon_test
 
 import (
 	"fmt"
@@ -18,8 +16,9 @@ var movsxMnemonics = map[bpfcanon.MovsxForm]string{
 	bpfcanon.W64From32: "movsx32",
 }
 
-// Insns returns the listing of instructions.
-func Insns(insns []bpfcanon.Insn) string {
+// insnListing returns the listing of decoded instructions, without the calls of the library that write it.
+// docs/FORMATS.md has the lines.
+func insnListing(insns []bpfcanon.Insn) string {
 	var text []byte
 	for _, it := range insns {
 		text = append(text, insnLine(it)+"\n"...)

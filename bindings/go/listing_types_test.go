@@ -1,4 +1,4 @@
-package listing
+package bpfcanon_test
 
 import (
 	"fmt"
@@ -9,8 +9,8 @@ import (
 	"bpfcanon"
 )
 
-// Types returns the listing of types, of which the first has the ID 1.
-func Types(types []bpfcanon.Type) string {
+// typeListing returns the listing of types, of which the first has the ID 1.
+func typeListing(types []bpfcanon.Type) string {
 	var text []byte
 	for i, it := range types {
 		text = fmt.Appendf(text, "[%d] %v%s\n", i+1, it.Kind(), fieldsOf(reflect.ValueOf(it), false))

@@ -1,16 +1,9 @@
-//! Prints the listing of a program or of a BTF file, made of decoded values. docs/FORMATS.md has the
-//! lines.
-//!
-//! ```text
-//! typed_lines insn little|big FILE
-//! typed_lines btf FILE
-//! ```
+//! The listings of decoded values, without the calls of the library that write them. docs/FORMATS.md
+//! has the lines.
 
 use bpfcanon::btf::{Btf, Type};
 use bpfcanon::insn::{AtomicOp, Insn, MovsxForm, Operand, Program, Reg, WideOf, Width};
-use std::error::Error;
 use std::fmt::{Debug, Write};
-use std::{env, fs, process};
 
 /// The name of a variant in lower case.
 fn lower(variant: impl Debug) -> String {
@@ -168,25 +161,4 @@ pub fn type_listing(btf: &Btf<'_>) -> String {
         items.iter().for_each(|it| writeln!(lines, "  {it}").unwrap());
     }
     lines
-}
-
-fn run(words: &[&str]) -> Result<String, Box<dyn Error>> {
-    match words {
-        ["insn", order, path] => {
-            Ok(insn_listing(&Program::decode(order.parse()?, &fs::read(path)?)?))
-        }
-        ["btf", path] => Ok(type_listing(&Btf::decode(&fs::read(path)?)?)),
-        _ => Err("usage: typed_lines insn little|big FILE, or typed_lines btf FILE".into()),
-    }
-}
-
-fn main() {
-    let words: Vec<String> = env::args().skip(1).collect();
-    match run(&words.iter().map(String::as_str).collect::<Vec<_>>()) {
-        Ok(text) => print!("{text}"),
-        Err(error) => {
-            eprintln!("typed_lines: {error}");
-            process::exit(1);
-        }
-    }
 }
