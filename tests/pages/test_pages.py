@@ -1,29 +1,21 @@
-"""Compares the manual pages, the limits of docs/SCOPE.md and the C header with the sources and with each other: commands,
-options, limits, statuses, the buffer sizes of calls, and the calls themselves.
-"""
+"""Compares the manual pages with the sources and the C header: commands, options, messages, statuses, structs, and calls."""
 
 import os
 import re
-import shlex
 import subprocess
 
 import pytest
 
 from tests.needs import need
 from tests import TOP
-from tests.commands import ALL_OPTIONS, COMMANDS, INSN_ENGINE, LIMITS, OPTIONS, constants
+from tests.commands import ALL_OPTIONS, COMMANDS, OPTIONS
 from tests.command import SECONDS
-from tests.reference import btf_page
-from tests.reference.formats_page import said
+from tests.process.test_limits import BTF_LIMIT
 
 HEADER = (TOP / "capi" / "bpfcanon.h").read_text()
 PAGES = sorted(TOP.glob("man/*.[13]"))
 COMMAND = TOP / "crates" / "bpfcanon"
 OUTCOME, MAIN, REPORTS = ((COMMAND / name).read_text() for name in ("src/outcome.rt", "src/main.rt", "specs/Outcome.antt"))
-
-
-def number(value):
-    return f"{value:,}"
 
 
 # ---- the commands and their options
@@ -41,7 +33,7 @@ def statuses():
 
 
 def test_manual():
-    """bpfcanon.1: the synopsis, the headings and the limits."""
+    """bpfcanon.1: the synopsis and the headings."""
     page = (TOP / "man" / "bpfcanon.1").read_text()
     synopsis = re.findall(r"^\\fBbpfcanon.*$", page, re.MULTILINE)
     for line, command in zip(synopsis, COMMANDS):
@@ -60,17 +52,6 @@ def test_manual():
     options = re.findall(r"^\.TP\n\.BI (\S+)\\~ ([ON])$", body, re.MULTILINE)
     right = [(option, "N" if option == "--split" else "O") for option in ALL_OPTIONS]
     assert [(it.replace(r"\-", "-"), value) for it, value in options] == right, f"the options: they are {options}"
-    text = plain(page)
-    insns, btf = (number(LIMITS[it]) for it in ("insn-canon", "btf-canon"))
-    two_insns, two_btf = (number(LIMITS[it]) for it in ("insn-same", "btf-same"))
-    (piece,) = re.findall(r"let mut buffer = \[0u8; (\d+)\];", INSN_ENGINE.read_text())
-    for right in [
-        f"The input is read in pieces of up to {number(int(piece))} bytes.",
-        f"The length of the first of two inputs in bytes, 0 to {two_insns}.",
-        f"The input is over the limit: {insns} bytes of instructions or of a listing, {two_insns} bytes for insn-same, "
-        f"{btf} bytes of BTF, {two_btf} bytes for btf-same.",
-    ]:
-        assert right in text, f"{right}: the page doesn't say so"
 
 
 def test_messages():
@@ -85,37 +66,7 @@ def test_messages():
     assert not missing, f"DIAGNOSTICS: these messages are missing: {missing}"
 
 
-def test_limits():
-    pattern = r"More than ([\d,]+) bytes of instructions or of a listing, or ([\d,]+) bytes of BTF, are `too long`"
-    right = number(constants()["INSN_LIMIT"]), number(constants()["BTF_LIMIT"])
-    found = said("Sizes", pattern)
-    assert found == right, f"the limits: they are {found}, and right is {right}"
-    said("Sizes", "for two inputs together the limit is twice that")
-    for first, second in ("insn-same", "insn-canon"), ("btf-same", "btf-canon"):
-        assert LIMITS[first] == 2 * LIMITS[second], f"{first}: its limit is {LIMITS[first]}"
-    (kernel,) = said("Sizes", r"The kernel accepts no more than ([\d,]+) bytes of BTF from a loader")
-    assert kernel == number(16 << 20), f"the kernel's limit: it is {kernel}"
-    most = btf_page.LONGEST + btf_page.TYPES + btf_page.STRINGS[1]
-    assert LIMITS["btf-canon"] == most, f"BTF: the sections make {most}"
-    parts = said("Sizes", r"([\d,]+) bytes of header, ([\d,]+) of types, ([\d,]+) of strings")
-    assert parts == tuple(map(number, (btf_page.LONGEST, btf_page.TYPES, btf_page.STRINGS[1]))), f"BTF: its parts are {parts}"
-
-
 # ---- the C library
-
-
-def plain(page):
-    """A manual page without its macros."""
-    lines = []
-    for line in page.replace(r"\-", "-").replace(r"\~", " ").splitlines():
-        name, _, rest = line.partition(" ")
-        if name in (".B", ".I"):
-            lines.append(rest.replace('"', ""))
-        elif name in (".BR", ".IR", ".BI"):
-            lines.append("".join(shlex.split(rest, posix=True)))
-        elif not line.startswith("."):
-            lines.append(line)
-    return " ".join(" ".join(lines).split())
 
 
 def fields_of(text, name):
@@ -124,46 +75,19 @@ def fields_of(text, name):
     return re.findall(r"(\w+) (\w+);", body[1]) if body else []
 
 
-# Which capacity is always enough for a call, as the header and the manual page say it. Worked out by hand: a line such as "jsgt32 r10,
-# -2147483648, -32768" has 32 characters for 8 bytes, "exit" makes 8 bytes of 4 characters, a wide load has 16, a type at least 12 and a
-# parameter 8.
-CAPACITIES = [
-    ("btf_canon", "A capacity of `len` bytes is always enough", "A capacity of len bytes is always enough"),
-    ("insn_canon", "Sets `written`, which is `len`", "A capacity of len bytes is always enough"),
-    ("insn_show", "A capacity of 4 * `len` bytes is always enough", "A capacity of four times len is always enough for a listing"),
-    ("insn_read", "A capacity of 2 * `len` bytes is always enough", "A capacity of twice len is always enough"),
-    ("insn_front", "fewer than 16 bytes remain after `read`", "fewer than 16 bytes remain after read"),
-    ("insn_decode", "A capacity of `len` / 8 records is always enough", "A capacity of len / 8 instructions"),
-    ("insn_encode", "A capacity of 16 * `count` bytes is always enough", "A capacity of 16 bytes for each record is always enough"),
-    ("btf_decode", "A capacity of `len` / 12 types and `len` / 8 items is always enough", "len / 12 types and len / 8 items is always enough"),
-]
-
-
-@pytest.mark.parametrize("call, of_header, of_page", CAPACITIES, ids=[row[0] for row in CAPACITIES])
-def test_capacity(call, of_header, of_page):
-    before = HEADER[: HEADER.index(f"\nbpfcanon_answer bpfcanon_{call}(")]
-    comment = re.sub(r"\s*\n \* ?", " ", before[before.rindex("/*") :])
-    assert of_header in comment and of_page in plain((TOP / "man" / "bpfcanon.3").read_text())
-
-
 def test_library():
     page = (TOP / "man" / "bpfcanon.3").read_text()
     for struct in re.findall(r"^typedef struct (\w+)", HEADER, re.MULTILINE):
         if f"typedef struct {struct}" in page:
             fields = fields_of(page, struct)
             assert fields == fields_of(HEADER, struct), f"{struct}: its fields are {fields}"
+    assert f"\n#define BPFCANON_BTF_MAX {BTF_LIMIT}\n" in HEADER
     assert fields_of(HEADER, "bpfcanon_answer"), "bpfcanon_answer in bpfcanon.h: it isn't there"
     assert fields_of(page, "bpfcanon_answer"), "bpfcanon_answer in bpfcanon.3: it isn't there"
     enum = re.search(r"^enum bpfcanon_status \{(.*?)^\}", HEADER, re.MULTILINE | re.DOTALL)[1]
     listed = page.partition(".SS Statuses")[2].partition(".SS")[0]
     shown, right = re.findall(r"^\.TP\n\.B (\w+)$", listed, re.MULTILINE), re.findall(r"^\t(\w+) = \d", enum, re.MULTILINE)
     assert shown == right, f"the statuses: they are {shown}, and right is {right}"
-    most = btf_page.LONGEST, btf_page.TYPES, btf_page.STRINGS[1]
-    text = "{} of header, {} of types and {} of strings".format(*map(number, most))
-    assert text in plain(page), f"BPFCANON_BTF_MAX in bpfcanon.3: it doesn't say {text!r}"
-    assert f"\n#define BPFCANON_BTF_MAX {sum(most)}\n" in HEADER, f"BPFCANON_BTF_MAX: it isn't {sum(most)}"
-    text = f"a {number(most[0])}-byte header, {most[1] >> 20} MiB of types, {most[2] >> 20} MiB of strings"
-    assert text in HEADER, f"BPFCANON_BTF_MAX in bpfcanon.h: its comment doesn't say {text!r}"
 
 
 def page_of(section):
