@@ -20,7 +20,7 @@ TESTS = ["process/test_streams.py", "process/test_vectors.py", "test_object_prog
 LEAST = "Nehalem"
 OLD = ["qemu64,-sse3,-cx16,-svm", *(f"{LEAST},-{it}" for it in ("popcnt", "sse3", "ssse3", "cx16", "sse4.1", "sse4.2"))]
 SENTENCE = b"bpfcanon: needs an x86-64-v2 processor (SSE4.2 and POPCNT)\n"
-C_TESTS = ["calls", "blocks", "threads", "vectors", "null_with_length"]
+C_TESTS = ["calls", "blocks", "threads", "vectors"]
 # What needs glibc, the page that says which, and the words around it.
 GLIBC = [
     ("bpfcanon-*-x86_64-linux/lib/libbpfcanon.so", "README.md", "glibc {} or later"),
