@@ -3,7 +3,7 @@
     process/      run the built command as a process
     pages/        compare the pages with the sources, and run what they show
     sources/      read the sources
-    reference/    modules, and no tests: readers of the tables of docs/FORMATS.md and docs/FAULTS.md, and checkers made of them
+    reference/    modules, and no tests: checkers made of the tables of docs/FORMATS.md and docs/causes.tsv
     languages/    the packages for Go, Rust and Python
     c_interface/  the C library
     examples/     follow the pages of examples/, and try to deceive the loaders there

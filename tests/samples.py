@@ -4,7 +4,7 @@ import struct
 from typing import NamedTuple
 
 from tests.command import Ran
-from tests.reference import btf_page as page
+from tests.reference import btf_tables as page
 
 USAGE = Ran(
     2,
@@ -102,7 +102,7 @@ INT_TEXT = b'[1] int "int" size=4 encoding=signed offset=0 bits=32\n'
 def btf(order, words, strings, tail=b"", **fields):
     """A file of these 32-bit fields and strings, with the header of docs/FORMATS.md except for the given fields."""
     right = {
-        "magic": int(page.MAGIC, 16),
+        "magic": page.MAGIC,
         "version": page.VERSION,
         "flags": page.FLAGS,
         "hdr_len": page.SHORTEST,

@@ -7,7 +7,7 @@ import pytest
 from tests import TOP
 from tests.command import SECONDS
 from tests.objects.elf_file import EXECINSTR, ElfFile
-from tests.reference.formats_page import cells
+from tests.sources.tables import cells
 
 # A field that is read by CO-RE, variables, a map, a license, a function, and a program. A macro chooses each.
 SOURCE = """

@@ -1,15 +1,15 @@
 """A reference for BTF, written from docs/FORMATS.md and docs/FAULTS.md: the first fault of a file, its canonical bytes and its listing.
 
-The kinds, causes, offsets and limits are those of the pages themselves (btf_page.py). All faults are listed, and the first one is
-returned. Nothing is done early or fast here.
+The kinds and causes are those of the pages themselves (btf_tables.py). All faults are listed, and the first one is returned. Nothing is
+done early or fast here.
 """
 
 import re
 import struct
 from typing import NamedTuple
 
-from tests.reference import btf_page as page
-from tests.reference.btf_page import LAYOUTS, NUMBERS
+from tests.reference import btf_tables as page
+from tests.reference.btf_tables import LAYOUTS, NUMBERS
 
 # The sort of a field of the page's layouts, for checks of all fields of one sort.
 SORTS = {"name_off": "name", "index_type": "type"}
@@ -230,9 +230,9 @@ def head_faults(record, records):
         yield fault_at("Size", record)
     if word == "INT" and int_is_wrong(record):
         yield fault_at("IntWord", record)
-    if word == "FUNC" and record.vlen > page.MOST_LINKAGE:
+    if word == "FUNC" and record.vlen >= len(page.LINKAGES):
         yield fault_at("Linkage", record)
-    if word == "VAR" and record.words[3] > page.MOST_LINKAGE:
+    if word == "VAR" and record.words[3] >= len(page.LINKAGES):
         yield fault_at("Linkage", record)
     if word == "DECL_TAG" and component_is_wrong(record, records):
         yield fault_at("Component", record)
@@ -317,7 +317,7 @@ def canonical(file, mark="<"):
     table, offsets = string_table(names)
     words = [word for record in records for word in canonical_words(record, sections.strings, offsets)]
     size = 4 * len(words)
-    start = int(page.MAGIC, 16), page.VERSION, page.FLAGS, page.SHORTEST
+    start = page.MAGIC, page.VERSION, page.FLAGS, page.SHORTEST
     header = struct.pack(f"{mark}HBBIIIII", *start, 0, size, size, len(table))
     return header + struct.pack(f"{mark}{len(words)}I", *words) + table
 
@@ -359,8 +359,8 @@ def words_of_head(record, strings):
         word = record.words[3]
         known |= {"encoding": page.ENCODINGS[page.ENCODING_BITS.of(word)]}
         known |= {"offset": page.OFFSET_IN_INT.of(word), "bits": page.SIZE_IN_INT.of(word)}
-    if record.kind in page.SIGNED:
-        known["S"] = page.SIGN[not record.flag]
+    if record.layout.word in page.WIDTHS:
+        known["S"] = page.SIGN[record.flag]
     if record.layout.word == "FWD":
         known["F"] = page.FORWARD[record.flag]
     if record.layout.word in ("FUNC", "VAR"):
@@ -386,7 +386,7 @@ def lines(file):
     sections = sections_of(file)
     text = []
     for number, record in enumerate(framed(sections)[0], 1):
-        head, item = page.LINES[record.kind]
+        head, item = page.LINES[record.layout.word]
         text.append(b"[%d] " % number + line(head.removeprefix("[ID] "), words_of_head(record, sections.strings)))
         text += [b"  " + line(item, words_of_item(record, at, sections.strings)) for at in record.items()]
     return b"".join(it + b"\n" for it in text)

@@ -1,6 +1,6 @@
 """What docs/FORMATS.md and docs/FAULTS.md say about instructions: the first fault of bytes, the line of an instruction, its group.
 
-The tables of FORMATS list all forms of instructions (insn_page.py). An instruction is checked field by field: the forms that match
+The tables of FORMATS list all forms of instructions (insn_forms.py). An instruction is checked field by field: the forms that match
 its bytes so far remain, and the field for which none remains is faulty.
 """
 
@@ -8,9 +8,11 @@ import functools
 import re
 from typing import NamedTuple
 
-from tests.reference.formats_page import PageError, fitted, numbers, said, table
-from tests.reference.insn_page import ANY, BYTES, RESERVED, SLOT, TWO, factors, forms, registers
+from tests.reference.insn_forms import ANY, BYTES, REGISTERS, SLOT, TWO, forms
+from tests.sources.tables import causes, numbers, table
 
+# The register in the upper half of its byte, and that in the lower one, in each byte order.
+HALVES = {"little": ("src", "dst"), "big": ("dst", "src")}
 FIELDS = ["Opcode", "Dst", "Src", "Offset", "Imm", "Reserved", "NextImm"]
 
 
@@ -32,15 +34,14 @@ class Insn(NamedTuple):
 def fields_of(code, order):
     """The fields of the bytes of a slot, or of two."""
     read = {name: int.from_bytes(code[where], order, signed=True) for name, where in BYTES.items() if where.stop <= len(code)}
-    (high, upper, lower), byte = factors()[2][order], code[BYTES["registers"]][0]
-    registers = {upper: byte // int(high), lower: byte % int(high)}
+    registers = dict(zip(HALVES[order], divmod(code[1], 16)))
     opcode = code[BYTES["opcode"]][0]
     return Insn(opcode, registers["dst"], registers["src"], *(read.get(name, 0) for name in ("offset", "imm", "reserved", "next_imm")))
 
 
 def bytes_of(insn, is_wide, order):
-    (high, upper, lower), registers = factors()[2][order], {"dst": insn.dst, "src": insn.src}
-    written = {"opcode": insn.opcode, "registers": int(high) * registers[upper] + registers[lower]}
+    upper, lower = (getattr(insn, name) for name in HALVES[order])
+    written = {"opcode": insn.opcode, "registers": 16 * upper + lower}
     written |= {name: getattr(insn, name) for name in ("offset", "imm", "reserved", "next_imm")}
     code = bytearray(TWO if is_wide else SLOT)
     for name, where in BYTES.items():
@@ -53,17 +54,14 @@ def bytes_of(insn, is_wide, order):
 @functools.cache
 def offsets():
     """The offset of each cause, and that of an incomplete second slot."""
-    rows = table("Faults in instructions", "Cause", "No.", "Offset")
-    found = {cause: pos for cause, _, pos in rows}
-    said("Faults in instructions", rf"Fewer than {SLOT} bytes at the end are Truncated, whatever they contain\.")
-    first, cut = fitted(found["Truncated"], r"(\d+); (\d+) if a wide load's second slot is incomplete")
-    return {cause: int(pos) for cause, pos in (found | {"Truncated": first}).items()}, int(cut)
+    found = {name: numbers(offset) for _, name, _, offset in causes("insn")}
+    return {name: first for name, (first, *_) in found.items()}, found["Truncated"][1]
 
 
 def holds(form, field, value):
     """Whether a form allows this value in a field. The reserved field is 0 in all."""
     allowed = {"Opcode": {form.opcode}, "Dst": form.dst, "Src": form.src, "Offset": form.offset, "Imm": form.imm}
-    return value in (allowed | {"Reserved": {RESERVED}, "NextImm": form.next_imm})[field]
+    return value in (allowed | {"Reserved": {0}, "NextImm": form.next_imm})[field]
 
 
 def field_fault(insn, allowed, fields):
@@ -87,15 +85,13 @@ def decoded(code, order):
         left, fault = field_fault(fields_of(code[:TWO], order), left, FIELDS)
     if fault:
         return None, (offset_of[fault], fault)
-    if len(left) != 1:
-        raise PageError(f"{code.hex()} has {len(left)} forms: {left}")
-    return (left[0], fields_of(code[: TWO if left[0].is_wide else SLOT], order)), None
+    (form,) = left
+    return (form, fields_of(code[: TWO if form.is_wide else SLOT], order)), None
 
 
 # ---- lines
 
 SIZE_LETTERS = {"W": "w", "H": "h", "B": "b", "DW": "dw"}
-MOVED = "the bits that are moved, and `_32` if the destination has 32"
 PARTS = re.compile(r"((?:`[^`]*` ?)+)(\(32\))? ?(.*)")
 
 
@@ -103,12 +99,9 @@ PARTS = re.compile(r"((?:`[^`]*` ?)+)(\(32\))? ?(.*)")
 def templates():
     """The row and the operands of each mnemonic, from the table of lines."""
     found = {}
-    narrow, wide = said("Listings", r'- "\(32\)" stands for the suffix `32` in (\d+)-bit forms, and for nothing in (\d+)-bit forms\.')
-    for name, line in table("Listings", "Instruction", "Line"):
+    for name, line in table("FORMATS.md", "Instruction", "Line"):
         for part in line.split("; "):
             words, both, operands = PARTS.fullmatch(part).groups()
-            if (int(narrow), int(wide)) != (32, 64) or ": " in operands and operands.partition(": ")[2] != MOVED:
-                raise PageError(f"{name}: {part!r}, and the suffix is for {narrow} bits")
             for word in words.replace("`", "").split():
                 for suffix in ["", "32"] if both else [""]:
                     found[word + suffix] = (name, operands.partition(": ")[0])
@@ -155,7 +148,7 @@ def line_of(form, insn):
     _, operands = templates()[word]
     signed = insn.offset if form.offset == ANY["offset"] else insn.imm
     whole = (insn.next_imm & 0xFFFF_FFFF) << 32 | insn.imm & 0xFFFF_FFFF
-    is_register = form.src == registers() and form.name in ("Alu", "Branch")
+    is_register = form.src == REGISTERS and form.name in ("Alu", "Branch")
     words = {
         "the number, unsigned": whole,
         "next_imm": insn.next_imm,
@@ -179,7 +172,7 @@ def line_of(form, insn):
 @functools.cache
 def groups():
     """The rows of the table of groups: the name of each, its instructions, and the group that it includes."""
-    return [(name, text.split("; "), included) for name, text, included in table("Conformance groups", "Group", "Instructions", "Includes")]
+    return [(name, text.split("; "), included) for name, text, included in table("FORMATS.md", "Group", "Instructions", "Includes")]
 
 
 def included():
@@ -203,6 +196,5 @@ def group_of(form):
     found = {name: part for name, parts, _ in groups() for part in parts if is_of(form, part)}
     named = [name for name, part in found.items() if form.operation in re.findall(r"\w+", part)]
     names = named if form.name == "Alu" and named else list(found)
-    if len(names) != 1:
-        raise PageError(f"{form.name} {form.operation} is in the groups {names}")
-    return names[0]
+    (name,) = names
+    return name

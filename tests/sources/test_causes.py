@@ -9,7 +9,7 @@ import re
 import pytest
 
 from tests import TOP
-from tests.sources.tables import table
+from tests.sources.tables import causes
 from tests.vector_rows import rows
 
 # The kind of vector for the faults of each kind, the column of its cause, and the cause that no input has.
@@ -29,15 +29,15 @@ def in_errors(text, enum):
 
 def test_objects():
     """The causes of object files are those that the two crates declare. The page names each."""
-    causes = table()["object"]
+    listed = causes("object")
     declared = in_errors(source("bpf_elf/src/fault.rt"), "ElfCause") + in_errors(source("bpf_object/src/fault.rt"), "ObjectCause")
-    assert sorted((sentence, name) for _, name, sentence in causes) == sorted(declared)
+    assert sorted((sentence, name) for _, name, sentence, _ in listed) == sorted(declared)
     page = (TOP / "docs" / "OBJECTS.md").read_text().partition("## Accepted files")[2].partition("\n### ")[0]
-    assert {name for _, name, _ in causes} <= set(re.findall(r"\w+", page))
+    assert {name for _, name, *_ in listed} <= set(re.findall(r"\w+", page))
 
 
 @pytest.mark.parametrize("kind", VECTORS)
 def test_uses(kind):
     """Each cause has a vector, and no vector has another one."""
-    names, (vector, at) = {name for _, name, _ in table()[kind]}, VECTORS[kind]
+    names, (vector, at) = {name for _, name, *_ in causes(kind)}, VECTORS[kind]
     assert {row[at] for row in rows(vector)} == names - {NEVER}

@@ -7,8 +7,8 @@ import re
 import pytest
 
 from tests.commands import COMMANDS, OPTIONS
-from tests.reference import btf_page, btf_reference, insn_page, insn_reference
-from tests.reference.formats_page import said
+from tests import TOP
+from tests.reference import btf_reference, btf_tables, insn_forms, insn_reference
 from tests.vector_rows import COLUMNS, VECTORS, data, rows
 
 LINES = VECTORS.read_text().splitlines()
@@ -19,7 +19,7 @@ OWN |= {"insn-fault": ["little", "big"], "btf-fault": ["little", "big"]}
 
 def test_form():
     """The first comment names the canonical form, and each other line is a row or a comment."""
-    (form,) = said("Formats", r"\*\*The canonical form is form (\d+)\.\*\*")
+    form = re.search(r"\*\*The canonical form is form (\d+)\.\*\*", (TOP / "docs" / "FORMATS.md").read_text())[1]
     assert LINES[0].startswith(f"# Test vectors for BPF instructions (RFC 9669) and BTF, form {form}: ")
     assert {line.partition("\t")[0] for line in LINES if line and not line.startswith("#")} == set(COLUMNS)
 
@@ -41,14 +41,14 @@ def form_of(form):
 
 def forms():
     found = (insn_reference.decoded(data(little), "little")[0][0] for _, little, *_ in rows("insn"))
-    return {*map(form_of, insn_page.forms())}, {*map(form_of, found)}
+    return {*map(form_of, insn_forms.forms())}, {*map(form_of, found)}
 
 
 def kinds():
     """The kinds of types, each with its kind_flag if that is part of what it means."""
     records = (it for row in rows("btf") for it in btf_reference.framed(btf_reference.sections_of(data(row[2])))[0])
-    return {(it.word, flag) for it in btf_page.LAYOUTS.values() for flag in ((0, 1) if it.word in btf_page.MEANT else (0,))}, {
-        (it.layout.word, it.flag if it.layout.word in btf_page.MEANT else 0) for it in records
+    return {(it.word, flag) for it in btf_tables.LAYOUTS.values() for flag in ((0, 1) if it.word in btf_tables.MEANT else (0,))}, {
+        (it.layout.word, it.flag if it.layout.word in btf_tables.MEANT else 0) for it in records
     }
 
 
