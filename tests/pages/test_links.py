@@ -15,10 +15,10 @@ BLOCK = re.compile(r"^```.*?^```$", re.MULTILINE | re.DOTALL)
 LINK = re.compile(r"\[[^\]]*\]\(([^)\s]+)\)")
 # A file in code: folders and a name with one of these endings. Capitals such as NAME stand for any name.
 FILE = re.compile(r"`([\w./*-]*\w\.(?:rt|antt|py|c|h|md|tsv|go|rs|map|toml|txt))`")
-NAME = re.compile(r"`([A-Za-z_][\w:]*)`")
+NAME = re.compile(r"`([A-Za-z_][\w:.]*)`")
 # The pages on the sources, what they may name, and what no source contains: a variable of the environment, prefixes, a new instruction,
 # and calls of libbpf.
-ON_SOURCES = ["CONTRIBUTING", "DECISIONS", "PROMISES", "TRUST"]
+ON_SOURCES = ["CONTRIBUTING", "DECISIONS", "NAMES", "PROMISES", "TRUST"]
 SOURCES = ["crates/**/*.rt", "crates/**/*.antt", "tests/**/*", "tools/*", "capi/*"]
 SOURCES += ["bindings/**/*.go", "bindings/**/*.py", "bindings/**/*.rs"]
 NO_NAMES = {"RT_JOBS", "chdir", "getcwd", "proved_", "bpfcanon_proved_", "MayGoto", "bpf_object__open_file", "btf__parse"}
@@ -83,8 +83,8 @@ def test_names():
     known |= {path.stem for path in [*TOP.glob("crates/*"), *TOP.glob("crates/*/*/*.edit"), *TOP.iterdir()]}
     for page in ON_SOURCES:
         text = BLOCK.sub("", (TOP / "docs" / f"{page}.md").read_text())
-        for name in sorted(it for it in set(NAME.findall(text)) - NO_NAMES if not it.startswith(OF_KIT)):
-            assert all(part in known for part in name.split("::")), f"`{name}`: no source contains it"
+        for name in sorted(it for it in set(NAME.findall(text)) - {*NO_NAMES, *FILE.findall(text)} if not it.startswith(OF_KIT)):
+            assert all(part in known for part in re.findall(r"\w+", name)), f"`{name}`: no source contains it"
 
 
 # ---- an installation, which has some of the pages
