@@ -1,74 +1,51 @@
-//! The rows of testdata/objects/objects.tsv; testdata/README.md has the columns.
+//! Object files, on which the crate does something by itself. The tests of the package for Python
+//! read all files of testdata/objects, over the same calls.
 
 mod rows;
 
+use bpfcanon::btf;
 use bpfcanon::object::{self, Cause, Error};
-use rows::{load, path_of, read_rows};
+use rows::load;
 use std::fmt::Debug;
 
-/// A row: its file, the bytes of that, and the other fields.
-struct Row {
-    file: String,
-    data: Vec<u8>,
-    fields: Vec<String>,
-}
-
-fn objects(kind: &str) -> Vec<Row> {
-    let table = read_rows(path_of("objects/objects.tsv"), kind);
-    let row_of = |(_, fields): (usize, Vec<String>)| Row {
-        data: load(&format!("objects/{}", fields[0])),
-        file: fields[0].clone(),
-        fields: fields[1..].to_vec(),
-    };
-    table.into_iter().map(row_of).collect()
-}
-
+/// A file that is shorter than its canonical file, compared with that and with another one.
 #[test]
-fn accepted_files_have_their_keys() {
-    let rows = objects("object");
-    let mut before = rows.last().unwrap();
-    for row in &rows {
-        let key = object::key(&row.data).unwrap();
-        let digits: String = key.iter().map(|byte| format!("{byte:02x}")).collect();
-        assert_eq!(digits, row.fields[0], "{}", row.file);
-        let canonical = object::canon(&row.data).unwrap();
-        assert_eq!(object::key(&canonical), Ok(key), "{}", row.file);
-        assert_eq!(object::canon(&canonical).as_ref(), Ok(&canonical), "{}", row.file);
-        assert_eq!(object::check(&row.data), Ok(()), "{}", row.file);
-        assert_eq!(object::same(&canonical, &row.data), Ok(true), "{}", row.file);
-        let is_same = before.fields[0] == row.fields[0];
-        assert_eq!(object::same(&before.data, &row.data), Ok(is_same), "{}", row.file);
-        before = row;
-    }
+fn a_canonical_file_may_be_longer() {
+    let short = load("objects/changed.shared_bytes.little.o");
+    let canonical = object::canon(&short).unwrap();
+    assert!(canonical.len() > short.len());
+    assert_eq!(object::canon(&canonical).as_ref(), Ok(&canonical));
+    assert_eq!(object::key(&short), object::key(&canonical));
+    assert_eq!(object::check(&short), Ok(()));
+    assert_eq!(object::same(&short, &canonical), Ok(true));
+    let other = load("objects/pass.little.debug.o");
+    assert_eq!(object::same(&short, &other), Ok(false));
+    let key: String = object::key(&other).unwrap().iter().map(|it| format!("{it:02x}")).collect();
+    assert_eq!(key, "1da1577a899346493beb3c14ae1f603919f1b6733049eaf48e6276c3fd6f1f9e");
 }
 
-/// A fault as in a row: whether it is in the second of two files, its offset, and its cause.
-fn fault<T: Debug>(result: Result<T, Error>) -> (bool, String, String) {
-    let fault = match result {
-        Err(Error::Fault(fault)) => fault,
-        other => panic!("no fault, but {other:?}"),
-    };
-    let name = fault.cause().name().unwrap();
-    let cause = match fault.cause() {
-        Cause::Types(_) => format!("Types({name})"),
-        _ => name.to_string(),
-    };
-    (fault.is_in_second(), fault.offset().to_string(), cause)
+/// A fault: whether it is in the second of two files, its offset, and its cause.
+fn fault<T: Debug>(result: Result<T, Error>) -> (bool, usize, Cause) {
+    let error = result.unwrap_err();
+    let fault = error.fault().unwrap();
+    (fault.is_in_second(), fault.offset() as usize, fault.cause())
 }
 
+/// A fault of the object file, and one of `.BTF` by itself, whose version is 2.
 #[test]
-fn refused_files_have_their_faults() {
-    let good = &objects("object")[0].data;
-    for Row { file, mut data, fields } in objects("object-fault") {
-        if let Ok(length) = fields[0].parse() {
-            data.resize(length, 0);
-        }
-        let first = (false, fields[1].clone(), fields[2].clone());
-        assert_eq!(fault(object::canon(&data)), first, "{file}");
-        assert_eq!(fault(object::key(&data)), first, "{file}");
-        assert_eq!(fault(object::check(&data)), first, "{file}");
-        assert_eq!(fault(object::same(&data, good)), first, "{file}");
-        let second = (true, fields[1].clone(), fields[2].clone());
-        assert_eq!(fault(object::same(good, &data)), second, "{file}");
+fn a_fault_has_its_place_and_cause() {
+    let good = load("objects/pass.little.debug.o");
+    let magic = [0x9f, 0xeb, 1, 0, 24, 0, 0, 0];
+    let version = good.windows(8).position(|it| it == magic).unwrap() + 2;
+    let mut types = good.clone();
+    types[version] = 2;
+    let rows =
+        [(&good[..63], 63, Cause::FileCut), (&types, version, Cause::Types(btf::Cause::Version))];
+    for (data, offset, cause) in rows {
+        assert_eq!(fault(object::canon(data)), (false, offset, cause));
+        assert_eq!(fault(object::key(data)), (false, offset, cause));
+        assert_eq!(fault(object::check(data)), (false, offset, cause));
+        assert_eq!(fault(object::same(data, &good)), (false, offset, cause));
+        assert_eq!(fault(object::same(&good, data)), (true, offset, cause));
     }
 }

@@ -9,14 +9,9 @@ use std::panic::{catch_unwind, AssertUnwindSafe};
 
 pub const ORDERS: [Order; 2] = [Order::Little, Order::Big];
 
-/// The fields of each row of a kind in vectors.tsv.
+/// The fields of each row of a kind in vectors.tsv, without the kind, after the row's line in the file.
 fn numbered(kind: &str) -> Vec<(usize, Vec<String>)> {
-    read_rows(path_of("vectors.tsv"), kind)
-}
-
-/// The fields of each row of a kind, without the kind, after the row's line in the file.
-pub fn read_rows(path: String, kind: &str) -> Vec<(usize, Vec<String>)> {
-    let file = fs::read_to_string(&path).unwrap_or_else(|error| panic!("{path}: {error}"));
+    let file = String::from_utf8(load("vectors.tsv")).unwrap();
     let lines = file.lines().map(|line| line.split('\t').map(String::from).collect::<Vec<_>>());
     let of_kind = lines.enumerate().filter(|(_, row)| row[0] == kind);
     let found: Vec<_> = of_kind.map(|(at, row)| (at + 1, row[1..].to_vec())).collect();
@@ -68,14 +63,9 @@ pub fn text(field: &str) -> Vec<u8> {
     found
 }
 
-/// The path of a file of testdata/.
-pub fn path_of(name: &str) -> String {
-    format!("{}/../../testdata/{name}", env!("CARGO_MANIFEST_DIR"))
-}
-
 /// A file of testdata/.
 pub fn load(name: &str) -> Vec<u8> {
-    let path = path_of(name);
+    let path = format!("{}/../../testdata/{name}", env!("CARGO_MANIFEST_DIR"));
     fs::read(&path).unwrap_or_else(|error| panic!("{path}: {error}"))
 }
 
