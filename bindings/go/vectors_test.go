@@ -1,6 +1,7 @@
 package bpfcanon_test
 
 import (
+	"encoding/binary"
 	"encoding/hex"
 	"fmt"
 	"os"
@@ -76,26 +77,6 @@ func text(t *testing.T, field string) []byte {
 	return []byte(s)
 }
 
-// The cause of this name, and the offset or line of a row.
-func fault[C bpfcanon.Cause](t *testing.T, cause func(uint32) C, pos, name string) bpfcanon.FaultError {
-	t.Helper()
-	at, err := strconv.ParseUint(pos, 10, 64)
-	if err != nil {
-		t.Fatal(err)
-	}
-	for number := uint32(1); number <= 32; number++ {
-		if c := cause(number); c.String() == name {
-			return bpfcanon.FaultError{Cause: c, Offset: at}
-		}
-	}
-	t.Fatalf("no cause has the name %s", name)
-	return bpfcanon.FaultError{}
-}
-
-func insnCause(n uint32) bpfcanon.InsnCause { return bpfcanon.InsnCause(n) }
-func lineCause(n uint32) bpfcanon.LineCause { return bpfcanon.LineCause(n) }
-func btfCause(n uint32) bpfcanon.BTFCause   { return bpfcanon.BTFCause(n) }
-
 // The names of a group and of the group that it includes.
 func brings(group string) string {
 	if name := strings.TrimSuffix(group, "64"); name != group {
@@ -150,30 +131,31 @@ func TestInstructions(t *testing.T) {
 	})
 }
 
+// Checks that calls on an input ended with this fault, and a comparison with it as the second input likewise.
+func wantFaults(t *testing.T, what string, want bpfcanon.FaultError, second error, errs ...error) {
+	t.Helper()
+	for _, err := range errs {
+		wantFault(t, what, err, want)
+	}
+	want.Second = true
+	wantFault(t, what+" as the second", second, want)
+}
+
+// A register beside an immediate, after an instruction. The tests of the package for Python have all faults of the vectors.
 func TestFaultyInstructions(t *testing.T) {
-	eachVector(t, "insn-fault", func(t *testing.T, row []string) {
-		want := fault(t, insnCause, row[3], row[4])
-		for _, order := range orders {
-			program := data(t, row[1+order])
-			_, err := bpfcanon.CanonInsns(order, bpfcanon.Little, program)
-			wantFault(t, row[0], err, want)
-			_, err = bpfcanon.ShowInsns(order, program)
-			wantFault(t, row[0], err, want)
-			_, err = bpfcanon.GroupsOf(order, program)
-			wantFault(t, row[0], err, want)
-			_, err = bpfcanon.DecodeInsns(order, program)
-			wantFault(t, row[0], err, want)
-			same, err := bpfcanon.SameInsns(order, program, order, nil)
-			wantFault(t, row[0], err, want)
-			second := want
-			second.Second = true
-			sameSecond, err := bpfcanon.SameInsns(order, nil, order, program)
-			wantFault(t, row[0], err, second)
-			if same || sameSecond {
-				t.Errorf("%s, beside the error: same %v, %v as the second", row[0], same, sameSecond)
-			}
+	for order, program := range [][]byte{unhex(t, "95 00 0000 00000000 04 10 0000 05000000"), unhex(t, "95 00 0000 00000000 04 01 0000 00000005")} {
+		order := bpfcanon.Order(order)
+		_, canon := bpfcanon.CanonInsns(order, bpfcanon.Little, program)
+		_, show := bpfcanon.ShowInsns(order, program)
+		_, groups := bpfcanon.GroupsOf(order, program)
+		_, decode := bpfcanon.DecodeInsns(order, program)
+		same, first := bpfcanon.SameInsns(order, program, order, nil)
+		sameSecond, second := bpfcanon.SameInsns(order, nil, order, program)
+		wantFaults(t, "instructions", bpfcanon.FaultError{Cause: bpfcanon.ErrInsnSrc, Offset: 9}, second, canon, show, groups, decode, first)
+		if same || sameSecond {
+			t.Errorf("beside the error: same %v, %v as the second", same, sameSecond)
 		}
-	})
+	}
 }
 
 func TestListings(t *testing.T) {
@@ -185,12 +167,8 @@ func TestListings(t *testing.T) {
 		got, err := bpfcanon.ShowInsns(bpfcanon.Little, program)
 		wantBytes(t, row[0], got, err, text(t, row[2]))
 	})
-	eachVector(t, "listing-fault", func(t *testing.T, row []string) {
-		want := fault(t, lineCause, row[2], row[3])
-		want.Line, want.Offset = want.Offset, 0
-		_, err := bpfcanon.ReadInsns(bpfcanon.Little, text(t, row[1]))
-		wantFault(t, row[0], err, want)
-	})
+	_, err := bpfcanon.ReadInsns(bpfcanon.Little, []byte("exit\nleave\n"))
+	wantFault(t, "a listing", err, bpfcanon.FaultError{Cause: bpfcanon.ErrLineWord, Line: 2})
 }
 
 func TestTypes(t *testing.T) {
@@ -226,28 +204,19 @@ func TestTypes(t *testing.T) {
 	})
 }
 
+// A PTR to a type that isn't there.
 func TestFaultyTypes(t *testing.T) {
-	good := data(t, vectors(t, "btf")[0][1])
-	eachVector(t, "btf-fault", func(t *testing.T, row []string) {
-		want := fault(t, btfCause, row[3], row[4])
-		for _, given := range [][]byte{data(t, row[1]), data(t, row[2])} {
-			_, err := bpfcanon.CanonBTF(bpfcanon.Little, given)
-			wantFault(t, row[0], err, want)
-			_, err = bpfcanon.ShowBTF(given)
-			wantFault(t, row[0], err, want)
-			_, err = bpfcanon.CheckBTF(given)
-			wantFault(t, row[0], err, want)
-			_, err = bpfcanon.DecodeBTF(given)
-			wantFault(t, row[0], err, want)
-			same, err := bpfcanon.SameBTF(given, good)
-			wantFault(t, row[0], err, want)
-			second := want
-			second.Second = true
-			sameSecond, err := bpfcanon.SameBTF(good, given)
-			wantFault(t, row[0], err, second)
-			if same || sameSecond {
-				t.Errorf("%s, beside the error: same %v, %v as the second", row[0], same, sameSecond)
-			}
+	for _, order := range []binary.ByteOrder{binary.LittleEndian, binary.BigEndian} {
+		good, given := btf(order, nil, "\x00"), btf(order, []uint32{0, info(bpfcanon.KindPtr, 0, 0), 2}, "\x00")
+		_, canon := bpfcanon.CanonBTF(bpfcanon.Little, given)
+		_, show := bpfcanon.ShowBTF(given)
+		_, check := bpfcanon.CheckBTF(given)
+		_, decode := bpfcanon.DecodeBTF(given)
+		same, first := bpfcanon.SameBTF(given, good)
+		sameSecond, second := bpfcanon.SameBTF(good, given)
+		wantFaults(t, "types", bpfcanon.FaultError{Cause: bpfcanon.ErrBTFReference, Offset: 32}, second, canon, show, check, decode, first)
+		if same || sameSecond {
+			t.Errorf("beside the error: same %v, %v as the second", same, sameSecond)
 		}
-	})
+	}
 }
