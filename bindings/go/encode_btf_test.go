@@ -54,6 +54,10 @@ var writtenTypes = []struct {
 	{bpfcanon.Enum64{Name: "a", Size: 8, Values: []bpfcanon.EnumValue{{Name: "bc", Value: 1<<63 + 2}}},
 		[]uint32{1, info(19, 1, 0), 8, 3, 2, 0x80000000}},
 	{bpfcanon.Struct{}, []uint32{0, info(4, 0, 0), 0}},
+	{bpfcanon.Int{Name: "bc", Size: 1, Encoding: bpfcanon.EncodingPlain, Bits: 8}, []uint32{3, info(1, 0, 0), 1, 8}},
+	{bpfcanon.Int{Name: "bc", Size: 1, Encoding: bpfcanon.EncodingSigned, Bits: 8}, []uint32{3, info(1, 0, 0), 1, 0x01000008}},
+	{bpfcanon.Int{Name: "bc", Size: 1, Encoding: bpfcanon.EncodingChar, Bits: 8}, []uint32{3, info(1, 0, 0), 1, 0x02000008}},
+	{bpfcanon.Func{Name: "a", Linkage: bpfcanon.LinkageStatic, Target: 3}, []uint32{1, info(12, 0, 0), 3}},
 }
 
 func TestTypesAreEncodedAndDecoded(t *testing.T) {

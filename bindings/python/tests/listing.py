@@ -1,13 +1,10 @@
-"""The listings of decoded values, without the calls of the library that write them. docs/FORMATS.md has the lines."""
+"""The listing of decoded instructions, without the call of the library that writes it. docs/FORMATS.md has the lines."""
 
 from __future__ import annotations
 
-import re
-from dataclasses import fields
 from typing import Any, Callable, Iterable
 
 from bpfcanon import insn_types as insn
-from bpfcanon import types as btf
 from bpfcanon.insn_types import Imm, MovsxForm, Operand, Reg, Size, SmallSize, SwapKind, Width
 
 MOVSX = {MovsxForm.W32_FROM8: "movsx8_32", MovsxForm.W32_FROM16: "movsx16_32", MovsxForm.W64_FROM8: "movsx8"}
@@ -56,44 +53,5 @@ INSN_LINES: dict[type, Callable[[Any], str]] = {
 }
 
 
-def quoted(name: str) -> str:
-    """A name between quotes."""
-    escapes = {code: f"\\x{code:02x}" for code in (*range(32), 127)} | {ord(it): f"\\{it}" for it in '"\\'}
-    return f'"{name.translate(escapes)}"'
-
-
-# How a field of a type or an item is written, if it isn't its name, "=" and its value.
-FIELDS: dict[str, Callable[[Any], str]] = {
-    "name": quoted,
-    "signed": lambda it: "signed" if it else "unsigned",
-    "is_union": lambda it: "union" if it else "struct",
-    "flag": lambda it: f"flag={int(it)}",
-    "linkage": lambda it: str(it.name).lower(),
-    "encoding": lambda it: f"encoding={it.name.lower()}",
-    "value": str,
-    "target": lambda it: f"type={it}",
-    "bit_offset": lambda it: f"offset={it}",
-    "component": lambda it: f"component={-1 if it is None else it}",
-}
-ITEMS = ("members", "values", "params", "entries")
-FIELDS |= dict.fromkeys(ITEMS, lambda it: f"items={len(it)}")
-
-
-def type_line(it: Any) -> str:
-    """The line of a type or an item, and below it those of its items."""
-    kind = re.sub(r"(?<!^)(?=[A-Z])", "_", type(it).__name__).lower().replace("enum_value", "value")
-    names = [field.name for field in fields(it)]
-    if isinstance(it, btf.Var):
-        names = ["name", "linkage", "target"]  # which is the order of a line
-    texts = [FIELDS[name](getattr(it, name)) if name in FIELDS else f"{name}={getattr(it, name)}" for name in names]
-    items = [item for name in names if name in ITEMS for item in getattr(it, name)]
-    return " ".join([kind, *texts]) + "".join(f"\n  {type_line(item)}" for item in items)
-
-
 def insn_listing(program: Iterable[insn.Insn]) -> str:
     return "".join(f"{INSN_LINES[type(it)](it)}\n" for it in program)
-
-
-def type_listing(types: Iterable[btf.Type]) -> str:
-    """The listing of types, of which the first has the ID 1."""
-    return "".join(f"[{id}] {type_line(it)}\n" for id, it in enumerate(types, 1))

@@ -14,7 +14,7 @@ from typing import Callable, Iterator, Optional
 import bpfcanon
 from bpfcanon import Btf, FaultError, Order, Program, TypeCycleError
 
-from .listing import insn_listing, type_listing
+from .listing import insn_listing
 from .samples import load
 from .test_vectors import ORDERS, data, rows
 
@@ -41,13 +41,12 @@ def fault_of(call: Callable[[], object]) -> Optional[tuple[object, ...]]:
 
 
 def walk_types(file: bytes) -> bool:
-    """Whether a file is accepted. Then each type is looked up, resolved and compared with the listing, and all are encoded again."""
+    """Whether a file is accepted. Then each type is looked up and resolved, and all are encoded again."""
     fault = fault_of(lambda: bpfcanon.btf_check(file))
     assert fault_of(lambda: Btf(file)) == fault, file.hex()
     if fault:
         return False
     btf = Btf(file)
-    assert type_listing(btf[1:]) == bpfcanon.btf_show(file), file.hex()
     assert bpfcanon.btf_encode(btf[1:]) == bpfcanon.btf_canon(file), file.hex()
     for id in range(1, len(btf)):
         with contextlib.suppress(TypeCycleError):

@@ -45,6 +45,10 @@ WRITTEN: list[tuple[Type, list[int]]] = [
     (TypeTag("a", True, 1), [1, info(18, 0, 1), 1]),
     (Enum64("a", True, 8, [EnumValue("bc", -(1 << 63) + 2)]), [1, info(19, 1, 1), 8, 3, 2, 0x80000000]),
     (Enum64("a", False, 8, [EnumValue("bc", (1 << 63) + 2)]), [1, info(19, 1), 8, 3, 2, 0x80000000]),
+    (Int("bc", 1, Encoding.PLAIN, 0, 8), [3, info(1), 1, 8]),
+    (Int("bc", 1, Encoding.SIGNED, 0, 8), [3, info(1), 1, 0x01000008]),
+    (Int("bc", 1, Encoding.CHAR, 0, 8), [3, info(1), 1, 0x02000008]),
+    (Func("a", Linkage.STATIC, 3), [1, info(12), 3]),
 ]
 
 # Values that no BTF holds.

@@ -6,7 +6,7 @@ from typing import Callable
 import bpfcanon
 from bpfcanon import Btf, BtfCause, FaultError, Group, InsnCause, LineCause, Order, Program
 
-from .listing import insn_listing, type_listing
+from .listing import insn_listing
 from .samples import TESTDATA
 
 ORDERS = [Order.LITTLE, Order.BIG]
@@ -90,7 +90,7 @@ class Vectors(unittest.TestCase):
             with self.subTest(line=number):
                 for given in {data(file), data(little), data(big)}:
                     decoded = Btf(given)
-                    self.assertEqual((type_listing(decoded[1:]).encode(), len(decoded)), (text(shown), int(count) + 1), name)
+                    self.assertEqual(len(decoded), int(count) + 1, name)
                     for to, canonical in zip(ORDERS, (data(little), data(big))):
                         self.assertEqual(bpfcanon.btf_canon(given, to=to), canonical, name)
                         self.assertEqual(bpfcanon.btf_encode(decoded[1:], to=to), canonical, name)

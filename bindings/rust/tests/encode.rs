@@ -63,6 +63,10 @@ fn written() -> Vec<(Type<'static>, Vec<u32>)> {
             vec![1, info(19, 1, 1), 8, 3, 2, 0x8000_0000]),
         (Type::Enum64 { name: "a", signed: false, size: 8, values: values("bc", i64::MIN + 2) },
             vec![1, info(19, 1, 0), 8, 3, 2, 0x8000_0000]),
+        (Type::Int { name: "bc", size: 1, encoding: Encoding::Plain, bit_offset: 0, bits: 8 }, vec![3, info(1, 0, 0), 1, 8]),
+        (Type::Int { name: "bc", size: 1, encoding: Encoding::Signed, bit_offset: 0, bits: 8 }, vec![3, info(1, 0, 0), 1, 0x0100_0008]),
+        (Type::Int { name: "bc", size: 1, encoding: Encoding::Char, bit_offset: 0, bits: 8 }, vec![3, info(1, 0, 0), 1, 0x0200_0008]),
+        (Type::Func { name: "a", linkage: Linkage::Static, target: id(3) }, vec![1, info(12, 0, 0), 3]),
     ]
 }
 

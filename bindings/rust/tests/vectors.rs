@@ -6,7 +6,7 @@ mod rows;
 use bpfcanon::btf::Btf;
 use bpfcanon::insn::Program;
 use bpfcanon::{btf, insn, Error, Fault, Order};
-use listing::{insn_listing, type_listing};
+use listing::insn_listing;
 use rows::{data, each_row, file, rows, text, ORDERS};
 use std::fmt::Debug;
 
@@ -93,7 +93,6 @@ fn types() {
         let (name, canonical) = (&row[0], [data(&row[2]), data(&row[3])]);
         for file in [&data(&row[1]), &canonical[0], &canonical[1]] {
             let decoded = Btf::decode(file).unwrap();
-            assert_eq!(type_listing(&decoded).as_bytes(), text(&row[5]), "{name}");
             assert_eq!(decoded.len().to_string(), row[4], "{name}");
             for (to, written) in ORDERS.into_iter().zip(&canonical) {
                 let types = decoded.iter().map(|(_, it)| it);

@@ -1,9 +1,8 @@
-//! The listings of decoded values, without the calls of the library that write them. docs/FORMATS.md
-//! has the lines.
+//! The listing of decoded instructions, without the call of the library that writes it.
+//! docs/FORMATS.md has the lines.
 
-use bpfcanon::btf::{Btf, Type};
 use bpfcanon::insn::{AtomicOp, Insn, MovsxForm, Operand, Program, Reg, WideOf, Width};
-use std::fmt::{Debug, Write};
+use std::fmt::Debug;
 
 /// The name of a variant in lower case.
 fn lower(variant: impl Debug) -> String {
@@ -78,87 +77,7 @@ fn insn_line(insn: Insn) -> String {
     }
 }
 
-/// A name in quotes, as in a type listing.
-fn quoted(name: &str) -> String {
-    let mut text = String::from("\"");
-    for it in name.chars() {
-        match it {
-            '"' | '\\' => text.extend(['\\', it]),
-            '\0'..='\x1f' | '\x7f' => write!(text, "\\x{:02x}", it as u32).unwrap(),
-            _ => text.push(it),
-        }
-    }
-    text + "\""
-}
-
-fn sign(signed: bool) -> &'static str {
-    ["unsigned", "signed"][usize::from(signed)]
-}
-
-#[rustfmt::skip]
-fn type_line(it: &Type<'_>, items: usize) -> String {
-    let name = quoted(it.name());
-    match it {
-        Type::Void => panic!("void has no line"),
-        Type::Int { size, encoding, bit_offset, bits, .. } =>
-            format!("int {name} size={size} encoding={} offset={bit_offset} bits={bits}", lower(encoding)),
-        Type::Ptr { target } => format!("ptr type={target}"),
-        Type::Array { target, index, count } => format!("array type={target} index={index} count={count}"),
-        Type::Struct { size, .. } => format!("struct {name} size={size} items={items}"),
-        Type::Union { size, .. } => format!("union {name} size={size} items={items}"),
-        Type::Enum { signed, size, .. } => format!("enum {name} {} size={size} items={items}", sign(*signed)),
-        Type::Fwd { is_union, .. } => format!("fwd {name} {}", if *is_union { "union" } else { "struct" }),
-        Type::Typedef { target, .. } => format!("typedef {name} type={target}"),
-        Type::Volatile { target } => format!("volatile type={target}"),
-        Type::Const { target } => format!("const type={target}"),
-        Type::Restrict { target } => format!("restrict type={target}"),
-        Type::Func { linkage: it, target, .. } => format!("func {name} {} type={target}", lower(it)),
-        Type::FuncProto { target, .. } => format!("func_proto type={target} items={items}"),
-        Type::Var { target, linkage: it, .. } => format!("var {name} {} type={target}", lower(it)),
-        Type::Datasec { size, .. } => format!("datasec {name} size={size} items={items}"),
-        Type::Float { size, .. } => format!("float {name} size={size}"),
-        Type::DeclTag { flag, target, component, .. } => {
-            let component = component.map_or(-1, i32::from);
-            format!("decl_tag {name} flag={} type={target} component={component}", u8::from(*flag))
-        }
-        Type::TypeTag { flag, target, .. } => format!("type_tag {name} flag={} type={target}", u8::from(*flag)),
-        Type::Enum64 { signed, size, .. } => format!("enum64 {name} {} size={size} items={items}", sign(*signed)),
-    }
-}
-
-/// The line of each member, value, parameter or entry.
-#[rustfmt::skip]
-fn item_lines(it: &Type<'_>) -> Vec<String> {
-    match it {
-        Type::Struct { members, .. } | Type::Union { members, .. } => members.iter().map(|it| {
-            format!("member {} type={} offset={} width={}", quoted(it.name), it.target, it.bit_offset, it.width)
-        }).collect(),
-        Type::Enum { signed, values, .. } | Type::Enum64 { signed, values, .. } => values.iter().map(|it| {
-            let number = if *signed { (it.value as i64).to_string() } else { it.value.to_string() };
-            format!("value {} {number}", quoted(it.name))
-        }).collect(),
-        Type::FuncProto { params, .. } => params.iter().map(|it| {
-            format!("param {} type={}", quoted(it.name), it.target)
-        }).collect(),
-        Type::Datasec { entries, .. } => entries.iter().map(|it| {
-            format!("entry type={} offset={} size={}", it.target, it.offset, it.size)
-        }).collect(),
-        _ => Vec::new(),
-    }
-}
-
 /// The listing of a program.
 pub fn insn_listing(program: &Program<'_>) -> String {
     program.iter().map(|(_, it)| insn_line(it) + "\n").collect()
-}
-
-/// The listing of types.
-pub fn type_listing(btf: &Btf<'_>) -> String {
-    let mut lines = String::new();
-    for (id, it) in btf {
-        let items = item_lines(&it);
-        writeln!(lines, "[{id}] {}", type_line(&it, items.len())).unwrap();
-        items.iter().for_each(|it| writeln!(lines, "  {it}").unwrap());
-    }
-    lines
 }
