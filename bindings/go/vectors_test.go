@@ -3,7 +3,6 @@ package bpfcanon_test
 import (
 	"encoding/binary"
 	"encoding/hex"
-	"fmt"
 	"os"
 	"path/filepath"
 	"strconv"
@@ -13,22 +12,16 @@ import (
 	"bpfcanon"
 )
 
-// A row of testdata/vectors.tsv: its line in the file, and its fields without the kind.
-// testdata/README.md describes the columns.
-type vector struct {
-	line   int
-	fields []string
-}
-
-func numberedVectors(t testing.TB, kind string) (rows []vector) {
+// The fields of each row of a kind of testdata/vectors.tsv, without the kind. testdata/README.md describes the columns.
+func vectors(t testing.TB, kind string) (rows [][]string) {
 	t.Helper()
 	file, err := os.ReadFile(filepath.Join("..", "..", "testdata", "vectors.tsv"))
 	if err != nil {
 		t.Fatal(err)
 	}
-	for i, line := range strings.Split(string(file), "\n") {
+	for _, line := range strings.Split(string(file), "\n") {
 		if fields := strings.Split(line, "\t"); fields[0] == kind {
-			rows = append(rows, vector{line: i + 1, fields: fields[1:]})
+			rows = append(rows, fields[1:])
 		}
 	}
 	if len(rows) == 0 {
@@ -37,20 +30,11 @@ func numberedVectors(t testing.TB, kind string) (rows []vector) {
 	return rows
 }
 
-// The fields of each row of a kind.
-func vectors(t testing.TB, kind string) (rows [][]string) {
-	t.Helper()
-	for _, row := range numberedVectors(t, kind) {
-		rows = append(rows, row.fields)
-	}
-	return rows
-}
-
-// Checks each row of a kind in a subtest, which has the name of its line.
+// Checks each row of a kind in a subtest, which has its name.
 func eachVector(t *testing.T, kind string, check func(t *testing.T, row []string)) {
 	t.Helper()
-	for _, row := range numberedVectors(t, kind) {
-		t.Run(fmt.Sprintf("line_%d", row.line), func(t *testing.T) { check(t, row.fields) })
+	for _, row := range vectors(t, kind) {
+		t.Run(row[0], func(t *testing.T) { check(t, row) })
 	}
 }
 

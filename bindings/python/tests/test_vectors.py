@@ -13,19 +13,13 @@ ORDERS = [Order.LITTLE, Order.BIG]
 EXIT = bytes.fromhex("9500000000000000")
 BRINGS = {Group.BASE64: Group.BASE32, Group.ATOMIC64: Group.ATOMIC32, Group.DIVMUL64: Group.DIVMUL32}
 
-VECTORS = TESTDATA / "vectors.tsv"
-
-
-def numbered(kind: str) -> list[tuple[int, list[str]]]:
-    """The fields of each row of a kind, without the kind, after the row's line in the file."""
-    lines = enumerate(VECTORS.read_text().splitlines(), 1)
-    found = [(number, line.split("\t")[1:]) for number, line in lines if line.startswith(f"{kind}\t")]
-    assert found, f"no row of {kind}"
-    return found
-
 
 def rows(kind: str) -> list[list[str]]:
-    return [fields for _, fields in numbered(kind)]
+    """The fields of each row of a kind, without the kind."""
+    lines = (TESTDATA / "vectors.tsv").read_text().splitlines()
+    found = [line.split("\t")[1:] for line in lines if line.startswith(f"{kind}\t")]
+    assert found, f"no row of {kind}"
+    return found
 
 
 def text(field: str) -> bytes:
@@ -44,8 +38,8 @@ class Vectors(unittest.TestCase):
             self.assertEqual(raised.exception.args, args)
 
     def test_instructions(self) -> None:
-        for number, (line, *files, group) in numbered("insn"):
-            with self.subTest(line=number):
+        for line, *files, group in rows("insn"):
+            with self.subTest(line):
                 programs, needed = dict(zip(ORDERS, map(data, files))), Group[group.upper()]
                 for order, program in programs.items():
                     decoded = Program(program, order=order)
@@ -61,8 +55,8 @@ class Vectors(unittest.TestCase):
                     self.assertEqual(bpfcanon.insn_groups(program, order=order), needed | BRINGS.get(needed, needed), line)
 
     def test_faulty_instructions(self) -> None:
-        for number, (name, *files, pos, cause) in numbered("insn-fault"):
-            with self.subTest(line=number):
+        for name, *files, pos, cause in rows("insn-fault"):
+            with self.subTest(name):
                 found = next(it for it in InsnCause if it.label == cause)
                 for order, program in zip(ORDERS, map(data, files)):
                     calls: list[Callable[[], object]] = [
@@ -76,18 +70,18 @@ class Vectors(unittest.TestCase):
                     self.faults([lambda: bpfcanon.insn_same(EXIT, program, second_order=order)], found, int(pos), 0, True)
 
     def test_listings(self) -> None:
-        for number, (name, given, shown) in numbered("listing"):
-            with self.subTest(line=number):
+        for name, given, shown in rows("listing"):
+            with self.subTest(name):
                 self.assertEqual(bpfcanon.insn_show(bpfcanon.insn_read(text(given))).encode(), text(shown), name)
-        for number, (name, given, line, cause) in numbered("listing-fault"):
-            with self.subTest(line=number):
+        for name, given, line, cause in rows("listing-fault"):
+            with self.subTest(name):
                 found = next(it for it in LineCause if it.label == cause)
                 self.faults([lambda: bpfcanon.insn_read(text(given))], found, 0, int(line), False)
 
     def test_types(self) -> None:
         first = data(rows("btf")[0][2])
-        for number, (name, file, little, big, count, shown) in numbered("btf"):
-            with self.subTest(line=number):
+        for name, file, little, big, count, shown in rows("btf"):
+            with self.subTest(name):
                 for given in {data(file), data(little), data(big)}:
                     decoded = Btf(given)
                     self.assertEqual(len(decoded), int(count) + 1, name)
@@ -101,8 +95,8 @@ class Vectors(unittest.TestCase):
 
     def test_faulty_types(self) -> None:
         good = data(rows("btf")[0][1])
-        for number, (name, *files, pos, cause) in numbered("btf-fault"):
-            with self.subTest(line=number):
+        for name, *files, pos, cause in rows("btf-fault"):
+            with self.subTest(name):
                 found = next(it for it in BtfCause if it.label == cause)
                 for given in map(data, files):
                     calls: list[Callable[[], object]] = [

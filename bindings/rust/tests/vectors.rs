@@ -7,7 +7,7 @@ use bpfcanon::btf::Btf;
 use bpfcanon::insn::Program;
 use bpfcanon::{btf, insn, Error, Fault, Order};
 use listing::insn_listing;
-use rows::{data, each_row, file, rows, text, ORDERS};
+use rows::{data, file, rows, text, ORDERS};
 use std::fmt::Debug;
 
 /// The names of a group and of the group that it includes.
@@ -29,7 +29,7 @@ fn fault_at<T: Debug, C: Copy + Debug>(
 #[test]
 fn instructions() {
     let exit = [0x95, 0, 0, 0, 0, 0, 0, 0];
-    each_row("insn", |row| {
+    for row in rows("insn") {
         let (line, programs) = (&row[0], [data(&row[1]), data(&row[2])]);
         for (from, program) in ORDERS.into_iter().zip(&programs) {
             let decoded = Program::decode(from, program).unwrap();
@@ -47,7 +47,7 @@ fn instructions() {
             assert_eq!(insn::read(from, line).as_ref(), Ok(program), "{line}");
             assert_eq!(insn::groups(from, program).unwrap().to_string(), brings(&row[3]), "{line}");
         }
-    });
+    }
 }
 
 /// A register beside an immediate, after an instruction. The tests of the package for Python have all
@@ -73,11 +73,11 @@ fn faulty_instructions() {
 
 #[test]
 fn listings() {
-    each_row("listing", |row| {
+    for row in rows("listing") {
         let program = insn::read(Order::Little, text(&row[1])).unwrap();
         let listing = insn::show(Order::Little, &program).unwrap();
         assert_eq!(listing.as_bytes(), text(&row[2]), "{}", row[0]);
-    });
+    }
 }
 
 #[test]
@@ -89,7 +89,7 @@ fn faulty_listings() {
 #[test]
 fn types() {
     let first = data(&rows("btf")[0][2]);
-    each_row("btf", |row| {
+    for row in rows("btf") {
         let (name, canonical) = (&row[0], [data(&row[2]), data(&row[3])]);
         for file in [&data(&row[1]), &canonical[0], &canonical[1]] {
             let decoded = Btf::decode(file).unwrap();
@@ -104,7 +104,7 @@ fn types() {
             assert_eq!(btf::same(file, &canonical[0]), Ok(true), "{name}");
             assert_eq!(btf::same(file, &first), Ok(canonical[0] == first), "{name}");
         }
-    });
+    }
 }
 
 /// A PTR to a type that isn't there.

@@ -5,31 +5,16 @@
 
 use bpfcanon::Order;
 use std::fs;
-use std::panic::{catch_unwind, AssertUnwindSafe};
 
 pub const ORDERS: [Order; 2] = [Order::Little, Order::Big];
 
-/// The fields of each row of a kind in vectors.tsv, without the kind, after the row's line in the file.
-fn numbered(kind: &str) -> Vec<(usize, Vec<String>)> {
+/// The fields of each row of a kind in vectors.tsv, without the kind.
+pub fn rows(kind: &str) -> Vec<Vec<String>> {
     let file = String::from_utf8(load("vectors.tsv")).unwrap();
     let lines = file.lines().map(|line| line.split('\t').map(String::from).collect::<Vec<_>>());
-    let of_kind = lines.enumerate().filter(|(_, row)| row[0] == kind);
-    let found: Vec<_> = of_kind.map(|(at, row)| (at + 1, row[1..].to_vec())).collect();
+    let found: Vec<_> = lines.filter(|row| row[0] == kind).map(|row| row[1..].to_vec()).collect();
     assert!(!found.is_empty(), "no row of {kind}");
     found
-}
-
-/// The fields of each row of a kind, without the kind.
-pub fn rows(kind: &str) -> Vec<Vec<String>> {
-    numbered(kind).into_iter().map(|(_, row)| row).collect()
-}
-
-/// Checks each row of a kind, and panics with the lines of those whose check has panicked.
-pub fn each_row(kind: &str, check: impl Fn(&[String])) {
-    let is_wrong = |row: &[String]| catch_unwind(AssertUnwindSafe(|| check(row))).is_err();
-    let wrong = numbered(kind).into_iter().filter(|(_, row)| is_wrong(row));
-    let lines: Vec<_> = wrong.map(|(line, _)| line).collect();
-    assert!(lines.is_empty(), "wrong lines: {lines:?}");
 }
 
 /// The bytes of a field of hexadecimal digits.
