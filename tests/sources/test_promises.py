@@ -1,4 +1,7 @@
-"""Compares docs/PROMISES.md with the sources: each call and law that it names is there, with each clause that it names for it."""
+"""Compares docs/PROMISES.md with the sources: each call and law has each clause that the page names for it.
+
+tests/pages/test_links.py looks for all names of the page.
+"""
 
 import re
 
@@ -12,9 +15,7 @@ CLAUSE = re.compile(r"^ *ensures\*? (\w+)(?: \{|$)", re.MULTILINE)
 # The head of a block of calls, and a call with its contract, which ends before the body.
 BLOCK = re.compile(r"^(?:pub )?(?:impl|trait)\b.*", re.MULTILINE)
 CALL = re.compile(r"^( *)(?:pub |extern \"C\" )*fn (\w+).*?(?:^\1[{}]|;$)", re.MULTILINE | re.DOTALL)
-DECLARED = re.compile(r"^ *(?:abbrev |unfoldable )?(?:pub )?(?:record |data )?(\w+)(?: [^:\n]*)? :", re.MULTILINE)
 PROMISES = [cells(line)[1] for line in (TOP / "docs" / "PROMISES.md").read_text().split("\n") if line.startswith("| ")]
-FILES = sorted(TOP.glob("crates/*/specs/**/*.antt"))
 
 
 def clauses_by_function():
@@ -47,16 +48,3 @@ def test_clauses():
     clauses, named = clauses_by_function(), [cell for cell in PROMISES if CLAUSES.search(cell)]
     assert named
     assert {cell: wrong for cell in named if (wrong := list(clauses_that_lack(cell, clauses)))} == {}
-
-
-def test_promises():
-    """The sources contain each name of docs/PROMISES.md."""
-    sources = "\n".join(file.read_text() for file in TOP.glob("crates/*/src/**/*.rt"))
-    functions = set(re.findall(r"(?:\bfn|^pub use [\w:]+ as) (\w+)", sources, re.MULTILINE))
-    clauses = set(re.findall(r"ensures\*? (\w+)(?: \{|$)", sources, re.MULTILINE))
-    kinds = set(re.findall(r"\b(?:struct|enum|trait|mod) (\w+)", sources))
-    definitions = {word for file in FILES for word in DECLARED.findall(file.read_text())}
-    known = functions | clauses | kinds | definitions
-    names = [name for cell in PROMISES for name in CODE.findall(cell)]
-    assert names
-    assert [name for name in names if not all(part in known or (TOP / part).exists() for part in name.split("::"))] == []
