@@ -65,4 +65,3 @@ pub mod FileWriterLemmas
 pub mod ObjectWriterLemmas
 pub mod FileOfLemmas
 pub mod WrittenObject
-pub mod RecordWindows

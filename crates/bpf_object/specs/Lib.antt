@@ -14,5 +14,4 @@ pub mod ObjectFaults
 pub mod SameObjects
 pub mod Laws
 pub mod SourceLines
-pub mod SectionRecords
 pub mod private

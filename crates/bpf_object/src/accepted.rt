@@ -1,5 +1,5 @@
-//! An object file that is accepted, as a value: its sections and symbols, its functions, and the
-//! source lines of its instructions.
+//! An object file that is accepted, as a value: its sections and symbols, and the source lines of
+//! its instructions.
 
 ghost use Rattle.std.specs.Prelude.{◌≡◌, true, None, IfOk, IfErr, MatchOption, MatchResult, option_map};
 ghost use Rattle.bpf_words.specs.Words.{word32_at};
@@ -9,7 +9,6 @@ ghost use Rattle.bpf_object.specs.private.AcceptedFacts.{IsAccepted, HasStringTa
 ghost use Rattle.bpf_object.specs.Denotes.{Denotes, extension_at};
 ghost use Rattle.bpf_object.specs.ObjectFaults.{Fails};
 ghost use Rattle.bpf_object.specs.Objects.{Object};
-ghost use Rattle.bpf_object.specs.SectionRecords.{functions_in, lines_in};
 ghost use Rattle.bpf_object.specs.SourceLines as spec;
 ghost use Rattle.bpf_object.specs.SourceLines.{line_value};
 ghost use Rattle.bpf_object.specs.Sources as sources;
@@ -18,7 +17,6 @@ use crate::canon::{canon_object, own_extension};
 use crate::extension::Part;
 use crate::fault::ObjectError;
 use crate::section_groups::{SectionGroup, group_of};
-use crate::section_records::{Functions, Lines};
 use crate::source::Source;
 use crate::source_lines::{SourceLine, line_in};
 use bpf_elf::{Elf, Kind};
@@ -120,24 +118,6 @@ impl<'a> AcceptedObject<'a> {
             return None;
         };
         Some(SectionGroup { source, start })
-    }
-
-    /// The functions of a section (Linux Documentation/bpf/btf.rst, "4.2 .BTF.ext section"): those of
-    /// the first group of functions that has its name. There are none if there is no such section or
-    /// group, or no .BTF.ext.
-    #[tactic(auto, using(crate::proofs::RecordWindows::section_has))]
-    pub fn functions(&self, section: usize) -> Functions<'_>
-        ensures { result ≡ functions_in self.now section }
-    {
-        Functions::of(self.group_in(Part::Functions, section))
-    }
-
-    /// The source lines of a section, in the same way.
-    #[tactic(auto, using(crate::proofs::RecordWindows::section_has))]
-    pub fn lines(&self, section: usize) -> Lines<'_>
-        ensures { result ≡ lines_in self.now section }
-    {
-        Lines::of(self.group_in(Part::Lines, section))
     }
 
     /// The source line of an instruction (Linux Documentation/bpf/btf.rst, "4.2 .BTF.ext section").

@@ -3,8 +3,8 @@
 //!
 //! [`canon_object`] writes the canonical file, [`same_objects`] compares two files by theirs, and
 //! [`object_key`] is its SHA-256. [`AcceptedObject`] is a file that has a canonical one, as a value:
-//! it gives the sections and symbols, the functions, and the source lines of instructions, which no
-//! canonical file has. [`laws`] says that canonical files are valid, and tell objects apart.
+//! it gives the sections and symbols, and the source lines of instructions, which no canonical file
+//! has. [`laws`] says that canonical files are valid, and tell objects apart.
 //! [`check_extension`] is a part of the calls.
 //!
 //! Definitions first: `specs/Objects.antt` says what an object is, `Kept` and `Denotes` which one a
@@ -14,8 +14,8 @@
 //! - `types`, with `type_checks`, checks .BTF.
 //! - `extension` checks .BTF.ext: its parts in `group_checks`, and what they say of one another and
 //!   of the strings in `line_checks` and `access_checks`. `source` and `cursors` read it.
-//! - `section_groups` finds the group of records of a section, `source_lines` in it the line of an
-//!   instruction, and `section_records` iterates over its records.
+//! - `section_groups` finds the group of records of a section, and `source_lines` in it the line of
+//!   an instruction.
 //! - `extension_file` writes .BTF.ext anew, by `groups` and `extension_writer`.
 //! - `object_writer` writes the file in one pass: the sections by `section_writer`, with the rows of
 //!   `relocation_rows`, then .BTF and .BTF.ext, then the symbols by `symbol_rows`. `names` is the
@@ -45,7 +45,6 @@ mod object_writer;
 mod relocation_rows;
 mod same;
 mod section_groups;
-mod section_records;
 mod section_writer;
 mod source;
 mod source_lines;
@@ -60,5 +59,4 @@ pub use extension::{Part, check_extension};
 pub use fault::{ObjectCause, ObjectError, ObjectFault};
 pub use key::object_key;
 pub use same::{SameError, same_objects};
-pub use section_records::{FunctionRecord, Functions, LineRecord, Lines};
 pub use source_lines::SourceLine;
