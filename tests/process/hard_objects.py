@@ -101,6 +101,12 @@ def symbols_of_one_string() -> bytes:
     return object_file([], b"n" * (MAX_FILE - 24 * count - ROOM) + b"\0", undefined([0]) * count)
 
 
+def symbols_of_few_strings(length: int) -> bytes:
+    """1.6 million symbols with 64 names of this length, which differ in their last bytes alone."""
+    names = [b"n" * (length - 2) + b"%02d\0" % number for number in range(64)]
+    return object_file([], b"".join(names), undefined([number * (length + 1) for number in range(64)]) * 25_000)
+
+
 def ends_of_a_string(count: int) -> bytes:
     """Symbols named by the ends of one string, in a file of a quarter of the greatest length."""
     names = b"n" * (MAX_FILE // 4 - 24 * count - ROOM) + b"\0"

@@ -183,18 +183,16 @@ def largest_programs():
 
 
 class Object(NamedTuple):
-    """An object file, the greatest processor time of `canon`, `key` and `check`, the cause for which it is refused, and what `check` needs if that
-    is more than the other two."""
+    """An object file, the greatest processor time of `canon`, `key` and `check`, the cause for which it is refused, and how many times its length
+    `check` needs."""
 
     make: Callable[[], bytes]
     seconds: float
     cause: bytes = b""
-    times: float = TIMES_THE_OBJECT
     check_times: float = TIMES_THE_OBJECT
 
 
-# More than four times: the names of a refused file are written up to four times its length before it is known to be too long, into an array that
-# grows by doubling and is stored beside what is noted of each name. `check` stores all that it prints before it writes it.
+# `check` stores all that it prints before it writes it.
 OBJECTS = {
     "64 MiB of code": Object(hard_objects.code, 0.4),
     "64 MiB of data": Object(hard_objects.data, 0.4),
@@ -203,10 +201,12 @@ OBJECTS = {
     "1.6 million names": Object(hard_objects.distinct_symbols, 2.9),
     "1.6 million ends of strings": Object(hard_objects.symbols_in_strings, 0.5),
     "1.6 million symbols with one name": Object(hard_objects.symbols_of_one_string, 0.5),
+    "64 names of 4,095 bytes, used often": Object(lambda: hard_objects.symbols_of_few_strings(4_095), 0.5),
+    "64 names of 63 bytes, used often": Object(lambda: hard_objects.symbols_of_few_strings(63), 1.2),
     "as many ends of a string as fit": Object(lambda: hard_objects.ends_of_a_string(11_500), 0.5),
-    "too many ends of a string": Object(lambda: hard_objects.ends_of_a_string(300_000), 0.07, b"ResultTooLarge", 6, 6),
+    "too many ends of a string": Object(lambda: hard_objects.ends_of_a_string(300_000), 0.07, b"ResultTooLarge"),
     "sections with ends of a string": Object(lambda: hard_objects.long_section_names(1), 0.07),
-    "sections with long names": Object(lambda: hard_objects.long_section_names(60), 0.1, b"ResultTooLarge", 12, 12),
+    "sections with long names": Object(lambda: hard_objects.long_section_names(60), 0.1, b"ResultTooLarge"),
     "a million names of types": Object(hard_objects.names_of_types, 1.0),
     "1.6 million groups of functions and lines": Object(hard_objects.groups, 1.0),
     "three million access strings": Object(lambda: hard_objects.access_strings(5_000), 0.5),
@@ -262,7 +262,7 @@ def test_objects(object_program, name):
     file = object.make()
     assert len(file) <= LARGEST_PROGRAM
     canonical = b"" if object.cause else run(object_program, "canon -", file, AMPLE).output
-    for line, times in ("canon -", object.times), ("key -", object.times), ("check -", object.check_times):
+    for line, times in ("canon -", TIMES_THE_OBJECT), ("key -", TIMES_THE_OBJECT), ("check -", object.check_times):
         ran = run(object_program, line, file, int(times * (len(file) + len(canonical))) + PROCESS)
         assert is_right(line, ran, object, canonical), f"{line} within {times} times its input: {ran.status} {ran.output[:80]}"
         assert ran.seconds <= TIMES_THE_TIME * object.seconds, line

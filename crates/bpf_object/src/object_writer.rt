@@ -6,7 +6,6 @@ ghost use Rattle.bpf_elf.specs.Header.{FILE_LIMIT as spec_limit};
 ghost use Rattle.bpf_elf.specs.Kinds.{SHT_PROGBITS as spec_progbits};
 ghost use Rattle.bpf_elf.specs.Numbers.{count, flags_of, names as names_section, order_of};
 ghost use Rattle.bpf_elf.specs.Sections as sections;
-ghost use Rattle.btf_raw.specs.Names.{IsWithoutNul};
 ghost use Rattle.bpf_object.specs.Canonical.{canonical, own_section};
 ghost use Rattle.bpf_object.specs.Denotes.{object_of, result_limit as spec_result_limit};
 ghost use Rattle.bpf_object.specs.File.{WrittenSection};
@@ -93,7 +92,6 @@ fn push_own<'a, A: Allocator + Copy>(
     name: &'a [u8],
     content: &[u8],
 ) -> Result<(), ObjectError>
-    requires { IsWithoutNul name.now }
     ensures { spec.Writes names.old.limit (name.now ∷ [])
         (λ place. own_section (place name.now) spec_progbits content.now 0 0 4 0 ∷ [])
         names.old names.new file.old file.new result }
@@ -110,7 +108,6 @@ fn push_types<'a, A: Allocator + Copy>(
     name: &'a [u8],
     content: Option<&[u8]>,
 ) -> Result<(), ObjectError>
-    requires { IsWithoutNul name.now }
     ensures { spec.Writes names.old.limit (spec.name_with name.now (content_of content.entry))
         (spec.section_with name.now (content_of content.entry))
         names.old names.new file.old file.new result }
@@ -205,7 +202,7 @@ fn write_tail<'a, A: Allocator + Copy>(
     let mut names = names.read_from(alloc, elf.symbol_strings());
     let mut rows = Vec::new(alloc);
     push_symbols(&mut rows, &mut names, elf, before)?;
-    let table = names.into_table();
+    let table = names.into_table(alloc)?;
     let first = first_global(elf);
     let symbols = own_header(symbols_name, SHT_SYMTAB, &rows, symtab + 1, first, 8, 24);
     let strings = own_header(strings_name, SHT_STRTAB, &table, 0, 0, 1, 0);
@@ -231,7 +228,7 @@ pub(crate) fn write_object<A: Allocator + Copy>(
     let before = section_numbers(alloc, elf)?;
     let symtab = symtab_number(elf, &before, types, extension);
     let mut file = FileWriter::new(alloc, elf.order(), limit)?;
-    let mut names = Names::new(alloc, limit as u32, elf.section_strings())?;
+    let mut names = Names::new(alloc, limit as u32, elf.section_strings());
     push_all(
         alloc, &mut file, &mut names, elf, &before, symtab, types, extension,
     )?;
