@@ -279,9 +279,9 @@ MARK = "\x1b\n\u202e"  # begins a line, and turns the text that follows round
 ESCAPED = MARK.encode("unicode_escape").decode()
 
 
-def marked(data: bytes) -> bytes:
+def marked(data: bytes, text: str = MARK) -> bytes:
     """An object file in which source lines, and names of symbols, of types and of a section begin with the mark."""
-    file, mark = ElfFile.read(data), MARK.encode()
+    file, mark = ElfFile.read(data), text.encode()
     symbols, btf = file.symbols(), btf_of(file)
     assert btf
     for it in symbols:

@@ -57,6 +57,7 @@ def parser() -> argparse.ArgumentParser:
     made.add_argument("--textconv", action="store_true", help="for git: a file that is refused is shown by its fault and SHA-256")
     made.add_argument("files", nargs="+", metavar="FILE", help=FILE)
     made = add("diff", "what differs between two object files, with the source lines of instructions, which no key covers")
+    made.add_argument("--html", action="store_true", help="write an HTML page that shows both files side by side, and loads nothing")
     made.add_argument("old", metavar="OLD", help=FILE)
     made.add_argument("new", metavar="NEW", help="what it is compared with")
     made = add("list", "the key of each object file, and a digest of each function")

@@ -3,9 +3,10 @@
 from __future__ import annotations
 
 import argparse
+import functools
 import hashlib
 import sys
-from typing import Callable, Iterator, Optional, TypeVar
+from typing import Callable, Iterable, Iterator, Optional, TypeVar
 
 import bpfcanon
 
@@ -13,6 +14,7 @@ from ..objects import MAX_SIZE
 from .accepted import Accepted
 from .cli import complain, say
 from .compare import compare
+from .html_page import page
 from .labels import printable
 from .limits import limited
 from .log import UNSIGNED, Annotator, LogError
@@ -71,11 +73,18 @@ def diff(options: argparse.Namespace) -> int:
     old, new = (attempt(path, lambda: Accepted(read(path))) for path in (options.old, options.new))
     if old is None or new is None:
         return 2
-    found = compare(old, new)
-    changes = attempt(f"{options.old}, {options.new}", lambda: [*found])
-    for change in changes or ():
-        sys.stdout.writelines(f"{it}\n" for it in (change.text, *(f"  {line}" for line in change.lines)))
-    return 2 if changes is None else int(bool(changes))
+    found = attempt(f"{options.old}, {options.new}", functools.partial(compared, old, new, options))
+    status, texts = found or (2, ())
+    sys.stdout.writelines(texts)
+    return status
+
+
+def compared(old: Accepted, new: Accepted, options: argparse.Namespace) -> tuple[int, Iterable[str]]:
+    """Return the status of a comparison, and its lines or its page."""
+    changes = [*compare(old, new)]
+    if options.html:
+        return int(bool(changes)), [page((options.old, options.new), old, new, changes)]
+    return int(bool(changes)), (f"{line}\n" for it in changes for line in (it.text, *(f"  {one}" for one in it.lines)))
 
 
 def log(options: argparse.Namespace) -> int:
