@@ -18,7 +18,7 @@ WORKERS ?= $(shell nproc)
 PROGRAMS = bpfcanon bpfcanon_object
 COMMANDS = $(foreach it,$(PROGRAMS),crates/$(it)/out/$(it))
 ARCHIVE = crates/bpfcanon_c/out/libbpfcanon_c.a
-RELEASE_LOGS = out/aarch64.log $(PROGRAMS:%=out/%.log)
+RELEASE_LOGS = out/aarch64.log $(PROGRAMS:%=out/%.log) $(PROGRAMS:%=out/%.aarch64.log)
 # The crates whose mutations are tried together, each after those that it uses.
 MUTATED = btf_raw bpf_elf bpf_insn btf_types bpf_canon bpf_text bpfcanon bpf_object bpfcanon_c bpfcanon_object
 MUTATIONS = $(MUTATED:%=out/mutations.%.log)
@@ -106,15 +106,17 @@ mutations:
 $(MUTATIONS): out/mutations.%.log: FORCE
 	nice tools/mutations.py $(WAITS) $* 2>&1 | tee $@
 # A check of a crate begins with what the one before kept.
-$(PROGRAMS:%=out/mutations.%.log): out/mutations.%.log: out/%.log
+$(PROGRAMS:%=out/mutations.%.log): out/mutations.%.log: out/%.aarch64.log
 out/mutations.bpfcanon_c.log: out/aarch64.log
 
-# What else a release needs, each with its verdict: the archive for ARM, and the objects of the programs.
+# What else a release needs, each with its verdict: the archive for ARM, and the objects of the programs for both processors.
 release-objects: $(RELEASE_LOGS)
 out/aarch64.log: $(ARCHIVE)
 	nice capi/archive --keep $(WAITS) aarch64 2>&1 | tee $@
 $(PROGRAMS:%=out/%.log): out/%.log: FORCE
 	nice packaging/program.py $(WAITS) $* 2>&1 | tee $@
+$(PROGRAMS:%=out/%.aarch64.log): out/%.aarch64.log: out/%.log
+	nice packaging/program.py $(WAITS) $* aarch64 2>&1 | tee $@
 
 tested: $(ARCHIVE)
 	for it in $(PROGRAMS); do until grep -qaE "^rt: $$it (proved$$|is kept:)" out/rt_ci.log; do [ ! -e out/proved ] && sleep 1 || exit 1; done; done

@@ -19,14 +19,14 @@ import proved
 from folders import PROCESSORS, link_programs, stage_go, stage_processor, stage_source, stage_vectors
 from notices import licence, third_party
 from packages import make_crate, make_debs, make_wheel, pack
-from tree import ARCHIVES, PROGRAMS, RECORD, TOP, VERSION, Refused, page, run
+from tree import ARCHIVES, MACHINES, PROGRAMS, RECORD, TOP, VERSION, Refused, page, run
 
 # What is kept of the environment: nothing else decides how the parts are built.
 KEPT = ["PATH", "HOME", "TMPDIR", "SOURCE_DATE_EPOCH", "RUSTUP_HOME", "RUSTUP_TOOLCHAIN"]
 TOOLS = ["git", "rt", "cc", "nm", "meson", "ninja", "tar", "xz", "sha256sum", "cargo", "dpkg-buildpackage", "dh", "dh_python3"]
 TOOLS += ["aarch64-linux-gnu-gcc", "aarch64-linux-gnu-objcopy"]
 MODULES = ["build", "setuptools", "wheel"]
-OBJECTS = [it.object for it in PROGRAMS]
+OBJECTS = [it.object(machine) for machine in MACHINES for it in PROGRAMS]
 
 
 def check_tree(is_unverified: bool) -> str:
@@ -46,14 +46,14 @@ def check_tree(is_unverified: bool) -> str:
 
 
 def make(out: pathlib.Path, work: pathlib.Path, proof: str) -> None:
-    documents = {"LICENSE": licence(), "THIRD-PARTY": third_party([*OBJECTS, ARCHIVES[0]]), "PROVED.txt": proof}
+    documents = {"LICENSE": licence(), "THIRD-PARTY": third_party([*OBJECTS, *ARCHIVES]), "PROVED.txt": proof}
     source = stage_source(documents, work)
     pack(source, out)
-    link_programs(source)
     folders = {}
     for it in PROCESSORS:
-        folders[it.go] = stage_processor(it, source, work)
-        make_wheel(it.name, folders[it.go], source, documents, out)
+        link_programs(it, source)
+        folders[it.port] = stage_processor(it, source, work)
+        make_wheel(it.name, folders[it.port], source, documents, out)
     for folder in *folders.values(), stage_go(folders, source, documents, work), stage_vectors(source, work):
         pack(folder, out)
     make_crate(source, work, out)

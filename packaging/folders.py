@@ -7,8 +7,7 @@ import re
 import shutil
 from typing import NamedTuple
 
-from notices import find_kit
-from tree import ARCHIVES, PROGRAMS, TOP, VERSION, Refused, page, run
+from tree import ARCHIVES, CROSS_FILE, PROGRAMS, TOP, VERSION, Refused, page, run
 
 # The flags of the C part; the proved objects are as Rattle's compiler made them.
 CFLAGS = "-O2 -g0 -fstack-protector-strong -D_FORTIFY_SOURCE=2"
@@ -22,16 +21,19 @@ GO_EXAMPLES = ["flow_table.c", "flow_table.big.btf", "flow_table.little.btf", "p
 
 
 class Processor(NamedTuple):
+    """What is built for a processor: its name, that in Go and Debian, a page, the compiler, its flags, and the options of meson."""
+
     name: str
-    go: str
+    port: str
     readme: str
+    compiler: str
     flags: str
     options: list[str]
 
 
 PROCESSORS = [
-    Processor("x86_64", "amd64", "README.binary", f"{CFLAGS} -fcf-protection", ["-Dcommand=true"]),
-    Processor("aarch64", "arm64", "README.arm", f"{CFLAGS} -mbranch-protection=standard", [f"--cross-file={TOP}/capi/aarch64.cross"]),
+    Processor("x86_64", "amd64", "README.binary", "cc", f"{CFLAGS} -fcf-protection", []),
+    Processor("aarch64", "arm64", "README.arm", "aarch64-linux-gnu-gcc", f"{CFLAGS} -mbranch-protection=standard", [f"--cross-file={CROSS_FILE}"]),
 ]
 
 
@@ -47,21 +49,21 @@ def stage_source(documents: dict[str, str], work: pathlib.Path) -> pathlib.Path:
     return root
 
 
-def link_programs(source: pathlib.Path) -> None:
-    """Links the programs, which need no C library, where rt would put them."""
-    kit = find_kit()
-    for it in PROGRAMS:
-        program = source / it.built.relative_to(TOP)
-        program.parent.mkdir()
-        parts = [source / "capi" / "processor.c", it.object, kit / "c" / "libos_c.a", kit / "c" / "liblibc_c.a"]
-        run("cc", *PROCESSORS[0].flags.split(), "-static-pie", *LDFLAGS.split(), "-Wl,--gc-sections", "-o", program, *parts)
+def link_programs(it: Processor, source: pathlib.Path) -> None:
+    """Links the programs, which need no C library, where meson.build looks for them."""
+    parts = [source / "capi" / f"{name}.c" for name in ("processor", "heap", "system")]
+    for program in PROGRAMS:
+        target = source / program.linked(it.name).relative_to(TOP)
+        target.parent.mkdir(exist_ok=True)
+        options = [*it.flags.split(), "-static-pie", *LDFLAGS.split(), "-Wl,--gc-sections"]
+        run(it.compiler, *options, "-o", target, *parts, program.object(it.name))
 
 
 def stage_processor(it: Processor, source: pathlib.Path, work: pathlib.Path) -> pathlib.Path:
-    """The folder of the programs and the C library for a processor, or the library alone, which needs no installation."""
+    """The folder of the programs and the C library for a processor, which needs no installation."""
     root, build = work / f"bpfcanon-{VERSION}-{it.name}-linux", work / f"build-{it.name}"
     flags = [f"-Dc_args={it.flags}", f"-Dc_link_args={LDFLAGS}", f"--prefix={root}", "-Dpkgconfig.relocatable=true"]
-    run("meson", "setup", *it.options, *flags, build, source)
+    run("meson", "setup", "-Dcommand=true", *it.options, *flags, build, source)
     run("meson", "install", "-C", build)
     (root / "install.sh").write_text((TOP / "packaging" / "install.sh").read_text().replace("@MACHINE@", it.name))
     (root / "install.sh").chmod(0o755)

@@ -7,10 +7,13 @@ import pathlib
 import shutil
 import sys
 
-from tree import VERSION, epoch, page, run
+from tree import CROSS_FILE, VERSION, epoch, page, run
 
 # The files of the command bpfcanon-review.
 REVIEW = ["man/bpfcanon-review.1", "completions/bash/bpfcanon-review", "completions/zsh/_bpfcanon-review"]
+
+# The first glibc for 64-bit ARM, whose symbols are the only ones that the library needs.
+GLIBC_FOR_ARM = "2.17"
 
 
 def pack(folder: pathlib.Path, out: pathlib.Path) -> None:
@@ -43,14 +46,23 @@ def make_crate(source: pathlib.Path, work: pathlib.Path, out: pathlib.Path) -> N
     shutil.copy(work / "target" / "package" / f"bpfcanon-{VERSION}.crate", out)
 
 
-def make_debs(source: pathlib.Path, out: pathlib.Path) -> None:
-    """The Debian packages of the sources and the programs. debian/copyright, which has packaging/NO-LICENSE, gets the licence."""
+def fill_in_licence(source: pathlib.Path) -> None:
+    """debian/copyright, which has packaging/NO-LICENSE, gets the licence."""
     copyright = source / "debian" / "copyright"
     licence = "".join(f" {line or '.'}\n" for line in (source / "LICENSE").read_text().splitlines())
     copyright.write_text("".join([*copyright.read_text().partition("License: bpfcanon\n")[:2], licence]))
+
+
+def make_debs(source: pathlib.Path, out: pathlib.Path) -> None:
+    """The Debian packages of the sources and the programs: all for amd64, and those with code for arm64 too."""
+    fill_in_licence(source)
     # pybuild takes the first Python of the path, which has to be Debian's.
     own = {"SOURCE_DATE_EPOCH": epoch(), "DEB_BUILD_OPTIONS": "nocheck noautodbgsym", "PATH": "/usr/sbin:/usr/bin:/sbin:/bin"}
     run("dpkg-buildpackage", "-b", "-us", "-uc", "-d", cwd=source, **own)
+    # By Debian's cross compiler the library would depend on the version of glibc that it was built with.
+    libraries = "".join(f"{it} libc6 (>= {GLIBC_FOR_ARM})\n" for it in ("libc 6", "ld-linux-aarch64 1"))
+    (source / "debian" / "shlibs.local").write_text(libraries)
+    run("dpkg-buildpackage", "-B", "-aarm64", "-us", "-uc", "-d", cwd=source, DH_MESON_CROSS_FILE=str(CROSS_FILE), **own)
     for deb in source.parent.glob("*.deb"):
         shutil.copy(deb, out)
         os.chmod(out / deb.name, 0o644)

@@ -12,9 +12,9 @@ import pathlib
 import re
 import sys
 
-from tree import ARCHIVES, PROGRAMS, RECORD, TOP, Refused, run
+from tree import ARCHIVES, MACHINES, PROGRAMS, RECORD, TOP, Refused, run
 
-BUILT = [*(file for it in PROGRAMS for file in (it.built, it.object)), *ARCHIVES]
+BUILT = [*(file for it in PROGRAMS for file in (it.built, *map(it.object, MACHINES))), *ARCHIVES]
 UNVERIFIED = "Not verified: these files were made from a tree that make check has not passed.\n"
 MEANING = """\
 Passed by make check. A line with logic=proved is a verdict of the prover: each function of the crate
@@ -22,11 +22,11 @@ meets its contract. The lines above it that end in "reached" name the functions 
 it assumes (docs/TRUST.md of the sources). Each verdict stands below the log that it is from. Those of
 rt_ci.log were proved from nothing, in this run or, of a crate that "is kept", in an earlier one on
 the same machine and of the same files. The others are of what a release has: the programs and the
-archive for x86-64 (target=x86_64-unknown-linux-gnu), and the archive for 64-bit ARM
+archive for x86-64 (target=x86_64-unknown-linux-gnu) and for 64-bit ARM
 (target=aarch64-unknown-linux-gnu). They are compiled from the same sources, over what a check of the
 same run kept (incremental=trusted). The compiler, LLVM, isn't proved, for either processor, and
-neither is the C around the calls of the library. All tests run on x86-64. For 64-bit ARM those of
-the C library run under an emulator (tests/released, with qemu).
+neither is the C around the calls of the library and below the programs. All tests run on x86-64. For
+64-bit ARM some of them run under an emulator (tests/released, with qemu).
 """
 
 

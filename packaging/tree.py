@@ -13,6 +13,11 @@ from typing import NamedTuple
 TOP = pathlib.Path(__file__).resolve().parent.parent
 
 
+def ending(processor: str) -> str:
+    """What the names of files for a processor end with."""
+    return "" if processor == "x86_64" else f".{processor}"
+
+
 class Program(NamedTuple):
     """A program of a release."""
 
@@ -23,15 +28,21 @@ class Program(NamedTuple):
         """What rt links, over the C library of this machine. What a release has is linked from the object."""
         return TOP / "crates" / self.crate / "out" / self.crate
 
-    @property
-    def object(self) -> pathlib.Path:
+    def linked(self, processor: str) -> pathlib.Path:
+        """What meson.build installs: that of rt, or of a release that for a processor."""
+        return self.built.with_name(f"{self.crate}{ending(processor)}")
+
+    def object(self, processor: str) -> pathlib.Path:
         """What a release links it from."""
-        return TOP / "out" / f"{self.crate}.o"
+        return TOP / "out" / f"{self.crate}{ending(processor)}.o"
 
 
 PROGRAMS = [Program("bpfcanon"), Program("bpfcanon_object")]
+MACHINES = ["x86_64", "aarch64"]
 # The archives of the proved calls (capi/archive).
-ARCHIVES = [TOP / "crates" / "bpfcanon_c" / "out" / name for name in ("libbpfcanon_c.a", "libbpfcanon_c.aarch64.a")]
+ARCHIVES = [TOP / "crates" / "bpfcanon_c" / "out" / f"libbpfcanon_c{ending(it)}.a" for it in MACHINES]
+# How meson builds for ARM.
+CROSS_FILE = TOP / "capi" / "aarch64.cross"
 # What make check passed (packaging/proved.py).
 RECORD = TOP / "out" / "PROVED.txt"
 VERSION = re.findall(r'^#define BPFCANON_VERSION "(.*)"$', (TOP / "capi" / "bpfcanon.h").read_text(), re.MULTILINE)[0]

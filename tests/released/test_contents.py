@@ -24,10 +24,6 @@ FILES = {
     "share/bash-completion/completions/bpfcanon-object": TOP / "completions" / "bash" / "bpfcanon-object",
     "share/zsh/site-functions/_bpfcanon": TOP / "completions" / "zsh" / "_bpfcanon",
     "share/zsh/site-functions/_bpfcanon-object": TOP / "completions" / "zsh" / "_bpfcanon-object",
-}
-# What the archives for each processor but x86-64 lack.
-OF_THE_COMMANDS = [*FILES]
-FILES |= {
     "share/doc/bpfcanon/LICENSE": TOP / "packaging" / "NO-LICENSE",
     "share/doc/bpfcanon/docs/canon.py": TOP / "docs" / "canon.py",
     "share/doc/bpfcanon/recipes/count.c": TOP / "recipes" / "count.c",
@@ -50,6 +46,8 @@ VECTORS += ["objects", "pass.c", "objects/objects.tsv", *(f"objects/{name}.c" fo
 VECTORS += [f"objects/{row.file}" for row in object_vectors.rows()]
 # The crates of the kit whose code can be in the commands or in the library: those that crates.txt names, and strsim, which clap uses.
 CRATES = ["arrayvec", "bumpalo", "byteorder", "clap", "hex", "indexmap", "itoa", "memchr", "sha2", "simdutf8", "strsim", "thiserror"]
+# The processors that the packages of Debian's ports are for.
+PORTS = {"amd64": "x86_64", "arm64": "aarch64"}
 # What each package depends on, besides the versions of the C library, which dpkg-shlibdeps finds.
 DEPENDS = {
     "bpfcanon": "",
@@ -104,13 +102,13 @@ def check_licence(release, name, content):
     assert content == release.licence, f"the licence of {name}: it is {content[:80]!r}"
 
 
-@pytest.mark.parametrize("machine, left_out", [("x86_64", []), ("aarch64", OF_THE_COMMANDS)], ids=["x86_64", "aarch64"])
-def test_processor(release, machine, left_out):
+@pytest.mark.parametrize("machine", PORTS.values())
+def test_processor(release, machine):
     """The archive for a processor: what is installed, with the list of it."""
     name = f"bpfcanon-{release.version}-{machine}-linux.tar.xz"
     members, read = release.members(name)
     shared, soname = f"libbpfcanon.so.{release.version}", f"libbpfcanon.so.{release.version.split('.')[0]}"
-    places = [place for place in [*FILES, *DOCUMENTS, *LIBRARY, f"lib/{shared}"] if place not in left_out]
+    places = [*FILES, *DOCUMENTS, *LIBRARY, f"lib/{shared}"]
     modes = {place: 0o755 if place.startswith("bin/") or place == f"lib/{shared}" else 0o644 for place in places}
     links = {f"lib/{soname}": shared, "lib/libbpfcanon.so": soname}
     tops = {it: f"share/doc/bpfcanon/{it}" for it in TOP_LINKS}
@@ -176,11 +174,12 @@ def test_wheels(release):
             assert not wrong, f"{path.name}: these have another mode: {wrong}"
 
 
-def test_debs(release):
+@pytest.mark.parametrize("port", PORTS)
+def test_debs(release, port):
     """What the packages depend on, their modes, and the programs, which are those of the archive."""
-    archive = release.members(f"bpfcanon-{release.version}-x86_64-linux.tar.xz")[1]
+    archive = release.members(f"bpfcanon-{release.version}-{PORTS[port]}-linux.tar.xz")[1]
     for package, depends in DEPENDS.items():
-        (path,) = release.folder.glob(f"{package}_*.deb")
+        (path,) = release.folder.glob(f"{package}_*_{'all' if package.startswith('python') else port}.deb")
         how = {"capture_output": True, "check": True, "timeout": SECONDS}
         found = subprocess.run(["dpkg-deb", "-f", path, "Depends"], text=True, **how).stdout.strip()
         found = re.sub(r"(libc6) \(>= [\d.]+\)", r"\1", found)

@@ -12,7 +12,7 @@ from tests.reference import btf_reference
 RECORD = "out/PROVED.txt"
 # What make check builds for a release.
 BUILT = [f"crates/bpfcanon_c/out/libbpfcanon_c{it}.a" for it in ("", ".aarch64")]
-BUILT += [name for it in ("bpfcanon", "bpfcanon_object") for name in (f"crates/{it}/out/{it}", f"out/{it}.o")]
+BUILT += [name for it in ("bpfcanon", "bpfcanon_object") for name in (f"crates/{it}/out/{it}", f"out/{it}.o", f"out/{it}.aarch64.o")]
 DATA = TOP / "testdata"
 # Types for a program over the library. The reference says what their canonical bytes are.
 TYPES = DATA / "flow_table.big.btf"
