@@ -20,6 +20,7 @@ from docs.canon import Refused, canonical
 from tests import TOP
 from tests.command import SECONDS, Ran
 from tests.needs import need
+from tests.process.hard_objects import CODE, FAULT, Section, object_file
 
 CRATE = TOP / "crates" / "bpfcanon_object"
 # The canonical file that the gate gives to the command on standard input.
@@ -312,6 +313,17 @@ def test_faults_of_code(fault, run, folder):
     found = {"file": "odd", "section": "xdp", "offset": offset, "cause": cause, "text": SENTENCES[cause]}
     assert rows == [{"file": "odd", "accepted": True}, found, {"file": "one", "accepted": True}]
     assert run("check", "--format", "github", "one", "odd") == Ran(1, f"::error file=odd::odd: {place}\n".encode())
+
+
+def test_long_section_name(run, folder):
+    """The first 256 bytes of the name of a section are printed, also if they end in a character."""
+    folder(odd=object_file([Section(0, flags=CODE, content=FAULT)], ("s" * 255 + "ü" * 100 + "\0").encode()))
+    section, text = "s" * 255 + "\ufffd", SENTENCES["Opcode"]
+    line = f"odd: {section}+0x0: Opcode: {text}\n".encode()
+    assert run("check", "odd") == Ran(1, b"odd: accepted\n", line)
+    rows = [json.loads(it) for it in run("check", "--format", "json", "odd").output.splitlines()]
+    assert rows[1] == {"file": "odd", "section": section, "offset": 0, "cause": "Opcode", "text": text}
+    assert run("check", "--format", "github", "odd") == Ran(1, b"::error file=odd::" + line)
 
 
 # Code for targets (RFC 9669 section 2.4): its instructions, the groups of a target, and the offset and the group of the first instruction

@@ -212,7 +212,7 @@ OBJECTS = {
     "three million access strings": Object(lambda: hard_objects.access_strings(5_000), 0.5),
     "access strings of 14 MiB": Object(lambda: hard_objects.access_strings(14 * MEGABYTE), 0.1, b"ResultTooLarge"),
     "faults in all sections": Object(hard_objects.faults, 0.1),
-    "faults in sections with a long name": Object(lambda: hard_objects.faults(b"\x1b" * 1_023), 1.1, check_times=32),
+    "faults in sections with a long name": Object(lambda: hard_objects.faults(b"\x1b" * 1_023), 0.3, check_times=10),
     "a long name of a source file": Object(lambda: hard_objects.faults_with_lines(200_000, 1_000), 0.1),
     "400,000 lines before those of faults": Object(lambda: hard_objects.faults_with_lines(1_000, 400_000), 0.2),
 }

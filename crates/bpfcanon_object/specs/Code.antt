@@ -1,7 +1,6 @@
 -- What is reported of code: of each section of code the first offset where the bytes aren't an instruction (RFC 9669 section 3), or else the
 -- first instruction outside the target.
 use Rattle.std.specs.Prelude.{◌≡◌, ◌++◌, ◌+◌, ◌/◌, ◌&&◌, if◌then◌else◌, ℕ, zero, suc, Bool, true, false, List, [], Option, Some, None, All, length, nat_lt}
-use Rattle.std.specs.Str.Lossy.{utf8_lossy}
 use Rattle.bpf_words.specs.declared.Order.{Order}
 use Rattle.bpf_elf.specs.declared.kinds.Kind.TheVariants.{Data}
 use Rattle.bpf_elf.specs.{Kinds.has_flag, Kinds.is_kind, Numbers.flags, Numbers.order_of}
@@ -9,7 +8,7 @@ use Rattle.bpf_elf.specs.Sections.{content, kind, name}
 use Rattle.bpf_object.specs.SourceLines.{Line, source_line}
 use Rattle.bpf_insn.specs.declared.{insn.Insn.Insn, group.GroupSet.GroupSet}
 use Rattle.bpf_insn.specs.{Faults.IsInsnFault, Encoding.InsnFile}
-use Rattle.bpfcanon_object.specs.{Formats.code_line, Target.IsFirstOutside, Target.IsWithin}
+use Rattle.bpfcanon_object.specs.{Formats.code_line, Formats.name_text, Target.IsFirstOutside, Target.IsWithin}
 use Rattle.bpfcanon_object.specs.declared.finding.{Finding.Finding, Reason.Reason, Reason.TheVariants.Fault, Reason.TheVariants.Outside}
 use Rattle.bpfcanon_object.specs.declared.check.Format.{Format}
 
@@ -53,10 +52,10 @@ most_sources b = 1 + 67108864 / (1 + length b)
 abbrev pub source_if : Bool → List ℕ → ℕ → Finding → Option Line
 source_if is_sought b i found = if is_sought then known (source_line b i found.pos) else None
 
--- the line for what is reported of a section, if anything is. What isn't UTF-8 in the name of the section becomes U+FFFD
+-- the line for what is reported of a section, if anything is
 abbrev pub line_if : Format → List ℕ → List ℕ → ℕ → Bool → Option Finding → List ℕ
 line_if format file b i is_sought None = []
-line_if format file b i is_sought (Some found) = code_line format file (utf8_lossy (name b i)) found (source_if is_sought b i found)
+line_if format file b i is_sought (Some found) = code_line format file (name_text (name b i)) found (source_if is_sought b i found)
 
 -- how many findings a section has
 abbrev pub count_of : Option Finding → ℕ

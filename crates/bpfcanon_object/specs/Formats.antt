@@ -35,19 +35,23 @@ github_line name fault text =
     ++ (codes ": byte " ++ (decimal fault.pos ++ (codes ": " ++ (object_cause_name fault.cause
     ++ (codes ": " ++ (github_text Message text ++ newline)))))))))
 
+-- the bytes of the name of a section or of a source file that are printed
+unfoldable pub cut_name : List ℕ → List ℕ
+cut_name name = take 256 name
+
+-- such a name as a text. What isn't UTF-8 in it becomes U+FFFD
+abbrev pub name_text : List ℕ → List ℕ
+name_text name = utf8_lossy (cut_name name)
+
 -- where code is reported, and why: SECTION+0xOFFSET: CAUSE: TEXT
 abbrev pub code_location : List ℕ → Finding → List ℕ
 code_location section found =
     escaped section ++ (codes "+0x" ++ (digits 16 false found.pos
     ++ (codes ": " ++ (reason_name found.reason ++ (codes ": " ++ reason_text found.reason)))))
 
--- the bytes of the name of a source file that are printed
-unfoldable pub cut_name : List ℕ → List ℕ
-cut_name file = take 256 file
-
--- the name of a source file. What isn't UTF-8 in it becomes U+FFFD
+-- the name of a source file
 abbrev pub source_file : Line → List ℕ
-source_file source = utf8_lossy (cut_name source.file)
+source_file source = name_text source.file
 
 -- as it is printed
 abbrev pub source_name : Line → List ℕ

@@ -13,6 +13,7 @@ use crate::escape::escaped;
 use crate::finding::Finding;
 use crate::github::{Part, github_text};
 use crate::json::{json_line, json_text};
+use crate::names::name_text;
 use crate::sources::{github_source, json_source, known, text_source};
 use bpf_elf::FILE_LIMIT;
 use bpf_insn::GroupSet;
@@ -129,7 +130,7 @@ fn line_if<A: Allocator + Copy>(
 {
     match found {
         Some(found) => {
-            let section = String::from_utf8_lossy(alloc, object.elf().name(i))?;
+            let section = name_text(alloc, object.elf().name(i))?;
             let source = source_if(object, i, found, is_sought);
             code_line(alloc, format, name, section.as_str(), found, source)
         }

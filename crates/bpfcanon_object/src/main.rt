@@ -21,6 +21,7 @@ mod json;
 mod key;
 mod key_list;
 mod machine;
+mod names;
 mod peek;
 mod reason;
 mod remark;

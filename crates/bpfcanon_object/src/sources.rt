@@ -1,7 +1,7 @@
 //! Source lines as `check` writes them. They are those of the original file: a canonical one has
 //! none.
 
-ghost use Rattle.std.specs.Prelude.{◌≡◌, IfOk, option_map, string_bytes, take};
+ghost use Rattle.std.specs.Prelude.{◌≡◌, IfOk, option_map, string_bytes};
 ghost use Rattle.bpf_object.specs.SourceLines.{line_value};
 ghost use Rattle.bpfcanon_object.specs.Code as code_spec;
 ghost use Rattle.bpfcanon_object.specs.Formats as spec;
@@ -9,11 +9,9 @@ ghost use Rattle.bpfcanon_object.specs.Formats as spec;
 use crate::escape::escaped;
 use crate::github::{Part, github_text};
 use crate::json::json_text;
+use crate::names::name_text;
 use bpf_object::SourceLine;
 use std::alloc::{AllocError, Allocator};
-
-/// How many bytes of the name of a source file are printed.
-const MOST: usize = 256;
 
 /// A source line that has a number and a name.
 pub fn known(source: Option<SourceLine<'_>>) -> Option<SourceLine<'_>>
@@ -28,24 +26,6 @@ pub fn known(source: Option<SourceLine<'_>>) -> Option<SourceLine<'_>>
     }
 }
 
-/// The first bytes, at most so many.
-fn front(bytes: &[u8], most: usize) -> &[u8]
-    ensures { result.now ≡ take most bytes.now }
-{
-    if bytes.len() > most {
-        &bytes[..most]
-    } else {
-        bytes
-    }
-}
-
-/// The bytes of the name of a source file that are printed.
-fn cut(file: &[u8]) -> &[u8]
-    ensures { result.now ≡ spec.cut_name file.now }
-{
-    front(file, MOST)
-}
-
 /// The name of a source file.
 fn source_name<A: Allocator + Copy>(
     alloc: A,
@@ -53,7 +33,7 @@ fn source_name<A: Allocator + Copy>(
 ) -> Result<String<A>, AllocError>
     ensures { IfOk result (λ name. string_bytes name ≡ spec.source_name (line_value source.entry)) }
 {
-    let name = String::from_utf8_lossy(alloc, cut(source.file))?;
+    let name = name_text(alloc, source.file)?;
     escaped(alloc, name.as_str())
 }
 
@@ -85,7 +65,7 @@ pub fn json_source<A: Allocator + Copy>(
 {
     match source {
         Some(source) => {
-            let name = String::from_utf8_lossy(alloc, cut(source.file))?;
+            let name = name_text(alloc, source.file)?;
             let name = json_text(alloc, name.as_str())?;
             let SourceLine { line, column, .. } = source;
             format!(in alloc; ",\"source\":\"{name}\",\"line\":{line},\"column\":{column}")

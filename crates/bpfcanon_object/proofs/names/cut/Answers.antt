@@ -1,5 +1,5 @@
 use Rattle.bpfcanon_object.specs.Formats.{cut_name}
-use Rattle.bpfcanon_object.proofs.sources.cut.Goals as goal
+use Rattle.bpfcanon_object.proofs.names.cut.Goals as goal
 
 pub returns : goal.returns
 unfolding cut_name
