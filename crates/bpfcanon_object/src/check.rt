@@ -1,6 +1,6 @@
 //! `check`: whether each file is accepted, for readers, programs and GitHub Actions.
 
-ghost use Rattle.std.specs.Prelude.{◌≡◌, IfOk, string_bytes};
+ghost use Rattle.std.specs.Prelude.{◌≡◌, IfErr, IfOk, string_bytes};
 ghost use Rattle.bpfcanon_object.specs.Answers as answers;
 ghost use Rattle.bpfcanon_object.specs.Answers.{IsAcceptedAnswer, IsAnswerWith, IsCheckAnswer};
 ghost use Rattle.bpfcanon_object.specs.Answers.{IsFaultAnswer};
@@ -198,7 +198,8 @@ pub fn check_answer<A: Allocator + Copy>(
     name: &str,
     bytes: &[u8],
 ) -> Result<Answer<A>, Stop>
-    ensures { IfOk result (IsCheckAnswer format target name.now bytes.now) }
+    ensures answer { IfOk result (IsCheckAnswer format target name.now bytes.now) }
+    ensures stop { IfErr result (λ stop. stop ≡ Stop.Memory) }
 {
     match AcceptedObject::read(alloc, bytes) {
         Ok(object) => {

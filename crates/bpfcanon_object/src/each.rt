@@ -1,6 +1,6 @@
 //! The verbs that answer for each file by itself.
 
-ghost use Rattle.std.specs.Prelude.{IfOk};
+ghost use Rattle.std.specs.Prelude.{◌≡◌, IfErr, IfOk};
 ghost use Rattle.bpfcanon_object.specs.Each.{IsEachAnswer};
 
 use crate::answer::Answer;
@@ -31,7 +31,8 @@ impl Each {
         name: &str,
         bytes: &[u8],
     ) -> Result<Answer<A>, Stop>
-        ensures { IfOk result (IsEachAnswer self name.now bytes.now) }
+        ensures answer { IfOk result (IsEachAnswer self name.now bytes.now) }
+        ensures stop { IfErr result (λ stop. stop ≡ Stop.Memory) }
     {
         match self {
             Each::Key => key_answer(alloc, name, bytes),

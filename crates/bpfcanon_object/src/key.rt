@@ -1,6 +1,6 @@
 //! `key`: the key of each file, as a line of `sha256sum`.
 
-ghost use Rattle.std.specs.Prelude.{◌≡◌, IfOk, string_bytes};
+ghost use Rattle.std.specs.Prelude.{◌≡◌, IfErr, IfOk, string_bytes};
 ghost use Rattle.bpfcanon_object.specs.Answers.{IsKeyAnswer};
 ghost use Rattle.bpfcanon_object.specs.KeyLines as spec;
 
@@ -38,7 +38,8 @@ pub fn key_answer<A: Allocator + Copy>(
     name: &str,
     bytes: &[u8],
 ) -> Result<Answer<A>, Stop>
-    ensures { IfOk result (IsKeyAnswer name.now bytes.now) }
+    ensures answer { IfOk result (IsKeyAnswer name.now bytes.now) }
+    ensures stop { IfErr result (λ stop. stop ≡ Stop.Memory) }
 {
     match object_key(alloc, bytes) {
         Ok(key) => {
