@@ -171,11 +171,42 @@ def test_section_of_a_fault(kind, run):
     assert ran.message.decode().endswith(f" {KINDS[kind]}\n")
 
 
-def test_hints(run):
-    assert run("diff", "one", "two").message.endswith(b"bpfcanon-object: bpfcanon-review has diff, show and list\n")
-    assert b"-mcpu" in run("check", "--target", "v3", "one").message and b"-mcpu" in run("check", "--target=v3", "one").message
-    for words in ("canon", "."), ("same", "-", "."), ("key", "missing"):
-        assert b"os error" not in run(*words, input=CANONICAL).message
+# Lines that people try, and what the message says. `out` is a folder, and `one` an object file.
+HINTS = {
+    "a command of another program": (("diff", "one", "two"), "bpfcanon-object: bpfcanon-review has diff, show and list"),
+    "a version of -mcpu": (("check", "--target", "v3", "one"), "-mcpu=v1 to v4 of clang are no conformance groups"),
+    "a version of -mcpu in one word": (("check", "--target=v3", "one"), "-mcpu=v1 to v4 of clang are no conformance groups"),
+    "an output for key": (("key", "one", "-o", "keys"), "only canon has --output: the other commands write to standard output"),
+    "a byte order": (("canon", "--to", "big", "one"), "a canonical file has the byte order of its original"),
+    "no command": (("one.o",), "the command comes before the files, as in bpfcanon-object key FILE"),
+    "a command with a mistake": (("cannon", "one"), "  tip: a similar subcommand exists: 'canon'"),
+    "an option with a mistake": (("key", "--chek", "keys"), "  tip: a similar argument exists: '--check'"),
+    "one file": (("same", "one"), "  <SECOND>"),
+    "a folder as output": (("canon", "one", "-o", "out"), "bpfcanon-object: out: it is a folder: give --output the name of a file"),
+    "a folder": (("canon", "out"), "bpfcanon-object: out: it is a folder, and only key and check take one"),
+    "a folder as list": (("key", "--check", "out"), "bpfcanon-object: out: it is a folder, and a list of keys is a file that key has written"),
+    "a folder in a list": (("key", "--check", "list"), "bpfcanon-object: out: it is a folder, and only a file has a key"),
+    "an object file as list": (("key", "-c", "one"), "bpfcanon-object: one: it is an object file, and key --check reads lists that key has written"),
+    "an empty list": (("key", "-c", "/dev/null"), "bpfcanon-object: /dev/null: it is empty, and no list of keys is"),
+}
+
+
+@pytest.mark.parametrize("row", HINTS.values(), ids=HINTS)
+def test_hints(row, run, folder):
+    """A message says what helps, in a line of its own, and no tip leads elsewhere."""
+    words, said = row
+    (folder(one=CANONICAL, list=f"{KEY}  out\n".encode()) / "out").mkdir()
+    ran = run(*words)
+    lines = ran.message.decode().split("\n")
+    assert ran.status == 2 and any(said in it for it in lines), ran.message
+    assert not re.search("to pass '|--version|\n\n\n|os error", ran.message.decode()), ran.message
+
+
+def test_wrong_option(run):
+    """An option before the command isn't taken for another one."""
+    usage = "Usage: bpfcanon-object <COMMAND>\n\nFor more information, try '--help'.\n"
+    assert run("--verbose", "key") == Ran(2, b"", f"error: unexpected argument '--verbose' found\n\n{usage}".encode())
+    assert b"os error" not in run("same", "-", ".", input=CANONICAL).message + run("key", "missing").message
 
 
 def test_longest(run, tmp_path):
@@ -251,7 +282,8 @@ WRONG = {
 def test_wrong_lines(line, run, folder):
     """A line that `key` doesn't write is trouble, and the lines after it are read."""
     folder(one=CANONICAL, keys=line + f"{KEY}  one\n".encode())
-    assert run("key", "--check", "keys") == Ran(2, b"one: OK\n", b"bpfcanon-object: keys: line 1 isn't one of a key\n")
+    why = b"line 1 isn't one that key writes: 64 digits, two blanks and a name"
+    assert run("key", "--check", "keys") == Ran(2, b"one: OK\n", b"bpfcanon-object: keys: %s\n" % why)
 
 
 def test_wrong_lists(run, folder):
@@ -437,6 +469,7 @@ REFUSED = {
     "check": ("check", "--format", "json", "cut", "top"),
     "check of code as github": ("check", "--format", "github", "--target", "base64,packet", "odd", "source"),
     "help": ("--help",),
+    "an unknown option": ("key", "--raw", "one"),
 }
 OUT_OF_MEMORY = re.compile(rb"bpfcanon-object: (?:[\w/.]+: )?out of memory|error: out of memory")
 

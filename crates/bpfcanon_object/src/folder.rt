@@ -8,7 +8,7 @@ use std::rt::Files;
 use std::{fs, io};
 
 /// The first bytes of an ELF file.
-const ELF_MAGIC: [u8; 4] = *b"\x7fELF";
+pub const ELF_MAGIC: [u8; 4] = *b"\x7fELF";
 
 /// How many bytes of a file show what it is: the last two of them are e_machine.
 const START: u64 = 20;

@@ -36,7 +36,7 @@ use crate::args::read_words;
 use crate::check::Format;
 use crate::desk::{Desk, Stop};
 use crate::escape::escaped;
-use crate::hint::hint;
+use crate::hint::{hint, without_tips};
 use crate::run::run;
 use crate::target::group_names;
 use crate::words::{Request, program, request_of, shown_word};
@@ -69,12 +69,15 @@ fn explain<R: Print + Eprint + AllocGlobal>(rt: &R, words: &[String]) -> Result<
     let Err(error) = command.try_get_matches_from(shown.as_slice()) else {
         return Ok(report(rt, "the arguments are wrong"));
     };
-    if error.print(rt).is_err() {
-        return Err(Stop::WriteFailed);
-    }
     if !error.use_stderr() {
-        return Ok(Status::Yes);
+        return match error.print(rt) {
+            Ok(()) => Ok(Status::Yes),
+            Err(_) => Err(Stop::WriteFailed),
+        };
     }
+    let text = error.to_string(alloc)?;
+    let text = without_tips(alloc, text.as_str())?;
+    let _ = eprint!(rt; "{text}");
     Ok(match hint(words) {
         Some(more) => report(rt, more),
         None => Status::Trouble,

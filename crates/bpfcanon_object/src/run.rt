@@ -6,10 +6,10 @@ use crate::check::Format;
 use crate::desk::{Desk, Stop};
 use crate::each::Each;
 use crate::files::{STANDARD, read_file, write_file};
-use crate::folder::{Folder, read_object};
+use crate::folder::{ELF_MAGIC, Folder, read_object};
 use crate::key::Key;
 use crate::key_list::{read_row, row_answer, unread_row_answer};
-use crate::reason::reason_of;
+use crate::reason::{Role, reason_of};
 use crate::same::same_answer;
 use crate::target::target_of;
 use crate::words::{Request, VERSION, shown_word};
@@ -18,9 +18,12 @@ use std::io::{Error, Write};
 use std::rt::Files;
 use std::{fs, str};
 
+/// What is said of a line that isn't in a list of keys.
+const NO_ROW: &str = "isn't one that key writes: 64 digits, two blanks and a name";
+
 /// The answer for a file that can't be read or written.
-fn error_answer(alloc: Global, name: &str, error: &Error) -> Result<Answer, Stop> {
-    let why = reason_of(alloc, error)?;
+fn error_answer(alloc: Global, role: Role, name: &str, error: &Error) -> Result<Answer, Stop> {
+    let why = reason_of(alloc, role, error)?;
     Ok(trouble_answer(alloc, shown_word(name), why.as_str())?)
 }
 
@@ -32,7 +35,7 @@ fn run_file<R: Files + Input + AllocGlobal, O: Write, E: Write>(
 ) -> Result<(), Stop> {
     let answer = match read_file(rt, name) {
         Ok(bytes) => each.answer(rt.alloc(), name, bytes.as_slice())?,
-        Err(error) => error_answer(rt.alloc(), name, &error)?,
+        Err(error) => error_answer(rt.alloc(), Role::Input, name, &error)?,
     };
     desk.put(&answer)
 }
@@ -47,7 +50,7 @@ fn run_member<R: Files + AllocGlobal, O: Write, E: Write>(
     let answer = match read_object(rt, name) {
         Ok(Some(bytes)) => each.answer(rt.alloc(), name, bytes.as_slice())?,
         Ok(None) => return Ok(false),
-        Err(error) => error_answer(rt.alloc(), name, &error)?,
+        Err(error) => error_answer(rt.alloc(), Role::Input, name, &error)?,
     };
     desk.put(&answer)?;
     Ok(true)
@@ -61,7 +64,7 @@ fn run_folder<R: Files + AllocGlobal + Clone + Drop, O: Write, E: Write>(
 ) -> Result<(), Stop> {
     let folder = Folder::read(rt, name)?;
     for (name, error) in &folder.unreadable {
-        desk.put(&error_answer(rt.alloc(), name.as_str(), error)?)?;
+        desk.put(&error_answer(rt.alloc(), Role::Input, name.as_str(), error)?)?;
     }
     let mut is_empty = folder.unreadable.is_empty();
     for name in &folder.files {
@@ -113,7 +116,7 @@ fn put_canonical<R: Files + AllocGlobal, O: Write, E: Write>(
     }
     match write_file(rt, name, bytes) {
         Ok(()) => Ok(()),
-        Err(error) => desk.put(&error_answer(rt.alloc(), name, &error)?),
+        Err(error) => desk.put(&error_answer(rt.alloc(), Role::Output, name, &error)?),
     }
 }
 
@@ -129,7 +132,7 @@ fn run_canon<R: Files + Input + AllocGlobal, O: Write, E: Write>(
             Ok(canonical) => put_canonical(rt, desk, output, canonical.as_slice()),
             Err(answer) => desk.put(&answer),
         },
-        Err(error) => desk.put(&error_answer(alloc, file, &error)?),
+        Err(error) => desk.put(&error_answer(alloc, Role::Input, file, &error)?),
     }
 }
 
@@ -145,11 +148,11 @@ fn run_same<R: Files + Input + AllocGlobal, O: Write, E: Write>(
     }
     let one = match read_file(rt, first) {
         Ok(bytes) => bytes,
-        Err(error) => return desk.put(&error_answer(alloc, first, &error)?),
+        Err(error) => return desk.put(&error_answer(alloc, Role::Input, first, &error)?),
     };
     let other = match read_file(rt, second) {
         Ok(bytes) => bytes,
-        Err(error) => return desk.put(&error_answer(alloc, second, &error)?),
+        Err(error) => return desk.put(&error_answer(alloc, Role::Input, second, &error)?),
     };
     let answer = same_answer(alloc, first, one.as_slice(), second, other.as_slice())?;
     desk.put(&answer)
@@ -166,7 +169,7 @@ fn run_row<R: Files + Input + AllocGlobal, O: Write, E: Write>(
     match read_file(rt, name) {
         Ok(bytes) => desk.put(&row_answer(alloc, name, wanted, bytes.as_slice())?),
         Err(error) => {
-            let why = reason_of(alloc, &error)?;
+            let why = reason_of(alloc, Role::Listed, &error)?;
             desk.put(&unread_row_answer(alloc, name, why.as_str())?)
         }
     }
@@ -184,12 +187,23 @@ fn run_rows<R: Files + Input + AllocGlobal, O: Write, E: Write>(
         match read_row(alloc, line)? {
             Some(row) => run_row(rt, desk, row.key, row.name.as_str())?,
             None => {
-                let why = format!(in alloc; "line {} isn't one of a key", i + 1)?;
+                let why = format!(in alloc; "line {} {NO_ROW}", i + 1)?;
                 desk.put(&trouble_answer(alloc, list, why.as_str())?)?;
             }
         }
     }
     Ok(())
+}
+
+/// What a file is that is no list of keys.
+fn no_list(bytes: &[u8]) -> &'static str {
+    if bytes.starts_with(&ELF_MAGIC) {
+        "it is an object file, and key --check reads lists that key has written"
+    } else if bytes.is_empty() {
+        "it is empty, and no list of keys is"
+    } else {
+        "it isn't a list that key has written"
+    }
 }
 
 fn run_list<R: Files + Input + AllocGlobal, O: Write, E: Write>(
@@ -200,11 +214,11 @@ fn run_list<R: Files + Input + AllocGlobal, O: Write, E: Write>(
     let alloc = rt.alloc();
     let bytes = match read_file(rt, list) {
         Ok(bytes) => bytes,
-        Err(error) => return desk.put(&error_answer(alloc, list, &error)?),
+        Err(error) => return desk.put(&error_answer(alloc, Role::List, list, &error)?),
     };
     match str::from_utf8(bytes.as_slice()) {
         Ok(text) if !text.is_empty() => run_rows(rt, desk, list, text),
-        _ => desk.put(&trouble_answer(alloc, list, "this isn't a list of keys")?),
+        _ => desk.put(&trouble_answer(alloc, list, no_list(bytes.as_slice()))?),
     }
 }
 
