@@ -123,6 +123,12 @@ def test_refused_log(case: str, run: Run) -> None:
     assert second.startswith(f"bpfcanon-review: -: {message}")
 
 
+def test_log_without_end(run: Run) -> None:
+    done = run("log", CALLS, "/dev/zero")
+    assert (done.returncode, done.stdout) == (2, b"")
+    assert done.stderr.endswith(b"\nbpfcanon-review: /dev/zero: it is longer than 67108864 bytes\n")
+
+
 def test_program(review: Review) -> None:
     """--program says whose log it is, and leaves those of others as they are."""
     log = "prog 'gone': -- BEGIN PROG LOAD LOG --\n\n1: (18) r1 = 0x0\n-- END PROG LOAD LOG --\n\n1: (7b) *(u64 *)(r10 -8) = r2"

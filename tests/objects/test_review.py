@@ -12,7 +12,7 @@ import shutil
 import subprocess
 import time
 from pathlib import Path
-from typing import Any, Iterator
+from typing import Any, Callable, Iterator
 
 import pytest
 
@@ -358,6 +358,25 @@ def test_comparison_over_its_limit(review: Review, monkeypatch: pytest.MonkeyPat
     assert commands.diff(argparse.Namespace(old=str(FLOWS), new=str(CHANGED))) == 2
     said = capsys.readouterr()
     assert said.out == "" and said.err.startswith(f"bpfcanon-review: {FLOWS}, {CHANGED}: it takes more than ")
+
+
+OVER: dict[str, tuple[Callable[[Any], object], str]] = {
+    "time": (lambda limits: [*endless()], "it takes more than "),
+    "memory": (lambda limits: bytearray(limits.MEMORY), "out of memory"),
+}
+
+
+@pytest.mark.parametrize("case", OVER)
+def test_file_over_its_limit(case: str, review: Review, monkeypatch: pytest.MonkeyPatch, capsys: pytest.CaptureFixture[str]) -> None:
+    """It counts as one that can't be read, and the command goes on to the next."""
+    commands, limits = review.module("commands"), review.module("limits")
+    takes, message = OVER[case]
+    read = commands.read
+    monkeypatch.setattr(limits, "SECONDS", 0.5)
+    monkeypatch.setattr(commands, "read", lambda path: takes(limits) if path == "hard" else read(path))
+    assert commands.list_keys(argparse.Namespace(files=["hard", str(FLOWS)])) == 2
+    said = capsys.readouterr()
+    assert said.out.endswith(f"  {FLOWS}: xdp count_flows\n") and said.err.startswith(f"bpfcanon-review: hard: {message}")
 
 
 def test_limits(review: Review, monkeypatch: pytest.MonkeyPatch) -> None:
