@@ -608,6 +608,8 @@ static const struct meaning object_causes[] = {
 	{ "SymbolDropped",
 	  "the symbol is dropped, but has a visibility, a value or a name that a loader "
 	  "may read" },
+	{ "ExtensionGroupTwice", "a second group of functions has the same section" },
+	{ "FunctionLines", "there are source lines of a function that .BTF.ext doesn't have" },
 };
 
 static const struct meaning no_meaning = { NULL, NULL };

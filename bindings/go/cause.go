@@ -137,6 +137,8 @@ const (
 	ErrObjectResultTooLarge                                 // the canonical file has more than 64 MiB, or more than four times the file and 64 KiB, or its .BTF more than 15 MiB
 	ErrObjectSectionsTooLarge                               // the sections that are kept are together longer than the file
 	ErrObjectSymbolDropped                                  // the symbol is dropped, but has a visibility, a value or a name that a loader may read
+	ErrObjectExtensionGroupTwice                            // a second group of functions has the same section
+	ErrObjectFunctionLines                                  // there are source lines of a function that .BTF.ext doesn't have
 )
 
 // String returns the name of the cause, for example "Opcode", or "InsnCause(999)" for a number

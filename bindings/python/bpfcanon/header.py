@@ -160,6 +160,8 @@ class ObjectCause(KnownCause):
     RESULT_TOO_LARGE = 152
     SECTIONS_TOO_LARGE = 153
     SYMBOL_DROPPED = 154
+    EXTENSION_GROUP_TWICE = 155
+    FUNCTION_LINES = 156
 
 
 class Form(enum.IntEnum):

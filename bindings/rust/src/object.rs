@@ -150,6 +150,10 @@ call::causes! {
     SectionsTooLarge = BPFCANON_OBJECT_CAUSE_SECTIONS_TOO_LARGE,
     /// The symbol is dropped, but has a visibility, a value or a name that a loader may read.
     SymbolDropped = BPFCANON_OBJECT_CAUSE_SYMBOL_DROPPED,
+    /// A second group of functions has the same section.
+    ExtensionGroupTwice = BPFCANON_OBJECT_CAUSE_EXTENSION_GROUP_TWICE,
+    /// There are source lines of a function that `.BTF.ext` doesn't have.
+    FunctionLines = BPFCANON_OBJECT_CAUSE_FUNCTION_LINES,
     ;
     /// `.BTF` has this fault by itself.
     Types(btf::Cause) below BPFCANON_OBJECT_CAUSE_FILE_TOO_LARGE

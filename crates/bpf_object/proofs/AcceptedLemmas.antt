@@ -22,12 +22,13 @@ use Rattle.bpf_object.specs.declared.fault.ObjectError.TheVariants as errors
 use Rattle.bpf_object.specs.private.AcceptedFacts.{IsAccepted, HasStringTable}
 use Rattle.bpf_object.specs.Denotes.{Denotes, HoldsTypes, TypesAre, types_at, types_of, extension_at, extension_of}
 use Rattle.bpf_object.specs.Extension.{Section, part_end, part_len, part_offset, next_group, group_count, groups, head_rules, form_rules, group_rules, groups_rules, part_rules}
-use Rattle.bpf_object.specs.Lines.{pairs_rules, accesses_rules, extension_rules}
+use Rattle.bpf_object.specs.{FunctionLines.functions_rules}
+use Rattle.bpf_object.specs.Lines.{lines_part, pairs_rules, section_rules, extension_rules}
 use Rattle.bpf_object.specs.{ObjectFaults.Fails, Objects.Object, Objects.ObjectTypes}
 use Rattle.bpf_object.specs.SourceLines.{types_strings, extension, group_of, group_in}
 use Rattle.bpf_object.specs.Sources.{section, IsSource, HasHeader, HasPart, HasGroup, HasGroups, HasParts}
 use Rattle.bpf_object.specs.{Types.TypesSection, Types.is_order, Types.form_rules as types_form_rules, Types.records_start, Types.rules_of, TypesFaults.KeepsTypes}
-use Rattle.bpf_object.proofs.{CanonRules.rule_holds, ObjectLemmas.fails_no_object, ReadBackStrings.closed_from_ends, TestLemmas.first_true}
+use Rattle.bpf_object.proofs.{CanonRules.rule_holds, ExtensionLemmas.section_held, ObjectLemmas.fails_no_object, ReadBackStrings.closed_from_ends, TestLemmas.first_true}
 
 -- ---- an answer
 
@@ -70,11 +71,11 @@ part_known x p header h =
     } in
     record { part = has; groups = groups_known x p (groups s p) has (rest_hold (form_rules s p) (groups_rules s p (groups s p)) h) }
 
-parts_known : (x : Source) → IsSource x → AllHold (extension_rules (section x)) → HasParts x
+parts_known : (x : Source) → IsSource x → AllHold (section_rules (section x)) → HasParts x
 parts_known x source h =
     let s = section x in
-    let records = pairs_rules s (groups s Functions) (groups s Lines) ++ accesses_rules s (groups s Relocations) in
-    let from_relocations = part_rules s Relocations ++ records in
+    let pairs = pairs_rules s (lines_part s) [] (groups s Functions) (groups s (lines_part s)) in
+    let from_relocations = part_rules s Relocations ++ pairs in
     let from_lines = part_rules s Lines ++ from_relocations in
     let from_functions = part_rules s Functions ++ from_lines in
     let functions = rest_hold (head_rules s) from_functions h in
@@ -85,7 +86,7 @@ parts_known x source h =
     record {
       functions = part_known x Functions header (first_hold (part_rules s Functions) from_lines functions);
       lines = part_known x Lines header (first_hold (part_rules s Lines) from_relocations lines);
-      relocations = part_known x Relocations header (first_hold (part_rules s Relocations) records relocations);
+      relocations = part_known x Relocations header (first_hold (part_rules s Relocations) pairs relocations);
     }
 
 -- ---- the strings of .BTF
@@ -117,7 +118,7 @@ table_there x s keeps =
 
 pub record HasExtension (b : List ℕ) : Type 0 where
   pub table : HasStringTable (order_of b) (content b (types_at b))
-  pub rules : AllHold (extension_rules (extension b))
+  pub rules : AllHold (section_rules (extension b))
 
 true_false : true ≡ false → ⊥
 true_false e = cc
@@ -127,9 +128,13 @@ typed_extension b t there holds =
     let table = table_there (types_of b) holds.sections holds.types in
     let strings : holds.sections.strings ≡ types_strings b =
     sym table.1 ∙ strings_there (order_of b) (content b (types_at b)) table.0.types table.0.strings table.0.cut in
-    let rules : AllHold (extension_rules (extension_of b holds.sections.strings)) =
-    subst (λ (y : Bool). AllHold (if y then [] else extension_rules (extension_of b holds.sections.strings))) there holds.extension in
-    record { table = table.0; rules = subst (λ (strings : List ℕ). AllHold (extension_rules (extension_of b strings))) strings rules }
+    let x = extension_of b holds.sections.strings in
+    let rules : AllHold (extension_rules x (functions_rules b x)) =
+    subst (λ (y : Bool). AllHold (if y then [] else extension_rules x (functions_rules b x))) there holds.extension in
+    record {
+      table = table.0;
+      rules = subst (λ (strings : List ℕ). AllHold (section_rules (extension_of b strings))) strings (section_held x (functions_rules b x) rules);
+    }
 
 file_extension : (b : List ℕ) (t : Option ObjectTypes) → (extension_at b == 0) ≡ false → TypesAre b t → HasExtension b
 file_extension b None there types =
@@ -142,7 +147,7 @@ has_extension b accepted some =
     file_extension b accepted.0.types there accepted.1.types
 
 pub extension_known : (x : Source) (b : List ℕ) → HasExtension b → IsSource x → section x ≡ extension b → HasParts x
-extension_known x b has source is = parts_known x source (subst (λ (s : Section). AllHold (extension_rules s)) (sym is) has.rules)
+extension_known x b has source is = parts_known x source (subst (λ (s : Section). AllHold (section_rules s)) (sym is) has.rules)
 
 pub part_groups : (x : Source) (p : Part) → HasParts x → HasGroups x p
 part_groups x Functions has = has.functions

@@ -7,10 +7,10 @@ use Rattle.bpf_elf.specs.{Header.FILE_LIMIT, Numbers.offset, Sections.content, R
 use Rattle.bpf_elf.proofs.SectionFacts.{content_short}
 use Rattle.bpf_object.specs.Objects.{ObjectTypes, Object}
 use Rattle.bpf_object.specs.Canonical.{strings_of, offset_of, types_strings, has_extension, btf_bytes, extension_bytes, canonical}
-use Rattle.bpf_object.specs.Denotes.{extension_at, extension_of, rules_of_extension, object_types, HoldsTypes, TypesAre, types_fit, result_limit, is_small, Denotes}
+use Rattle.bpf_object.specs.Denotes.{extension_at, extension_of, rules_of_extension, object_of, object_types, HoldsTypes, TypesAre, types_fit, result_limit, is_small, Denotes}
 use Rattle.bpf_object.specs.Extension.{Section}
 use Rattle.bpf_object.specs.Groups.{function_groups, relocation_groups}
-use Rattle.bpf_object.specs.Lines.{extension_rules}
+use Rattle.bpf_object.specs.{FunctionLines.functions_rules, Lines.extension_rules}
 use Rattle.bpf_object.proofs.ReadBackTests.{equal_test, most_test}
 use Rattle.bpf_object.proofs.CanonValid.{ValidObject, IsSmall}
 use Rattle.bpf_object.proofs.CanonReads.{order_back, object_back}
@@ -19,8 +19,9 @@ use Rattle.bpf_object.proofs.CanonAcceptedSymbols.{object_is_valid}
 use Rattle.bpf_object.proofs.CanonTypes.{types_back, no_types_back, extension_back, no_extension_back, no_extension_of_back}
 use Rattle.bpf_object.proofs.CanonBtfKept.{small_types, canonical_words, strings_short, canonical_records, canonical_types_kept}
 use Rattle.bpf_object.proofs.CanonExtensionKept.{SaysExtension, written_section, extension_said}
+use Rattle.bpf_object.proofs.CanonFunctionSymbols.{KeepsFunctions, symbol_keeps, keeps_rules}
 use Rattle.bpf_object.proofs.CanonFew.{few_written}
-use Rattle.bpf_object.proofs.CanonHeld.{AreValidTypes, types_are_valid, no_functions, no_relocations}
+use Rattle.bpf_object.proofs.CanonHeld.{AreValidTypes, types_are_valid, functions_are_kept, no_functions, no_relocations}
 use Rattle.bpf_object.proofs.DenotesOne.{denotes_one}
 
 -- ---- what is_small says
@@ -62,9 +63,14 @@ both_none a b h =
     let both = and_parts (a == 0) (b == 0) (not-false (a == 0 && b == 0) h) in
     (eqb-true a 0 both.0, eqb-true b 0 both.1)
 
-module _ (x : Object) (valid : ValidObject x) (small : IsSmall x) (t : ObjectTypes) (is : x.types ≡ Some t) (few : length (btf_bytes x.order t) ≤ 15728640) (types : AreValidTypes t) where
+module _ (x : Object) (valid : ValidObject x) (small : IsSmall x) (t : ObjectTypes) (is : x.types ≡ Some t) (few : length (btf_bytes x.order t) ≤ 15728640) (types : AreValidTypes t)
+    (functions : KeepsFunctions x t.functions) where
   abbrev strings : List ℕ
   strings = strings_of (types_strings t)
+
+  -- its symbols are those of the object
+  kept : KeepsFunctions (object_of (canonical x) x.types) t.functions
+  kept = subst (λ (y : Object). KeepsFunctions y t.functions) (sym (object_back x valid small)) functions
 
   -- there is one
   with_extension : has_extension t ≡ true → SaysOf (canonical x) strings t
@@ -82,8 +88,12 @@ module _ (x : Object) (valid : ValidObject x) (small : IsSmall x) (t : ObjectTyp
       let same : written_section x.order start t types.extension short fits ≡ extension_of c strings =
       same_section (record { order = x.order; start = start; bytes = bytes; strings = strings }) (extension_of c strings) (sym (order_back x valid small)) refl (sym whole) refl in
       let says : SaysExtension (extension_of c strings) t = subst (λ (s : Section). SaysExtension s t) same said in
+      let symbols : AllHold (functions_rules c (extension_of c strings)) =
+      keeps_rules c (extension_of c strings) t.functions says.lines (symbol_keeps c (canonical_is_elf x valid small) x.types t.functions kept) in
       record {
-        rules = subst (λ (y : Bool). AllHold (if y then [] else extension_rules (extension_of c strings))) (sym there) says.rules;
+        rules =
+            subst (λ (y : Bool). AllHold (if y then [] else extension_rules (extension_of c strings) (functions_rules c (extension_of c strings)))) (sym there)
+            (says.rules (functions_rules c (extension_of c strings)) symbols);
         functions = says.functions;
         relocations = says.relocations;
       }
@@ -96,7 +106,7 @@ module _ (x : Object) (valid : ValidObject x) (small : IsSmall x) (t : ObjectTyp
       let empty : (extension_of c strings).bytes ≡ [] = ap (λ (y : Bool). if y then [] else content c (extension_at c)) at in
       let lengths = both_none (length t.functions) (length t.relocations) none in
       record {
-        rules = subst (λ (y : Bool). AllHold (if y then [] else extension_rules (extension_of c strings))) (sym at) refl;
+        rules = subst (λ (y : Bool). AllHold (if y then [] else extension_rules (extension_of c strings) (functions_rules c (extension_of c strings)))) (sym at) refl;
         functions = no_functions (extension_of c strings) empty ∙ no_elements t.functions lengths.0;
         relocations = no_relocations (extension_of c strings) empty ∙ no_elements t.relocations lengths.1;
       }
@@ -129,10 +139,12 @@ no_types_are x valid small is =
     (no_types_back x valid small is, rw none refl)
 
 -- the types of the canonical file, if those of the file are these
-types_are : (b : List ℕ) (x : Object) → IsBytes b → ValidObject x → IsSmall x → types_fit x ≡ true → (o : Option ObjectTypes) → x.types ≡ o → TypesAre b o
+types_are : (b : List ℕ) (x : Object) → IsBytes b → Denotes b x → ValidObject x → IsSmall x → types_fit x ≡ true → (o : Option ObjectTypes) → x.types ≡ o → TypesAre b o
     → TypesAre (canonical x) o
-types_are b x bytes valid small fit None is held = no_types_are x valid small is
-types_are b x bytes valid small fit (Some t) is held = canonical_holds x valid small t is (small_types x t is fit) (types_are_valid b t bytes held)
+types_are b x bytes d valid small fit None is held = no_types_are x valid small is
+types_are b x bytes d valid small fit (Some t) is held =
+    canonical_holds x valid small t is (small_types x t is fit) (types_are_valid b t bytes held)
+    (subst (λ (y : Object). KeepsFunctions y t.functions) (sym d.whole) (functions_are_kept b x.types t bytes d.elf held))
 
 pub denoted_valid : (b : List ℕ) (x : Object) → IsBytes b → Denotes b x → ValidObject x
 denoted_valid b x bytes d = subst ValidObject (sym d.whole) (object_is_valid b bytes d.elf x.types)
@@ -144,7 +156,7 @@ canonical_denotes b x bytes d =
     let small : IsSmall x = record { few = few_written b x bytes d; short = parts.short } in
     record {
       elf = canonical_is_elf x valid small;
-      types = types_are b x bytes valid small parts.types x.types refl d.types;
+      types = types_are b x bytes d valid small parts.types x.types refl d.types;
       whole = sym (object_back x valid small);
       small = small_again x parts;
     }

@@ -1,7 +1,7 @@
 -- The .BTF.ext of a canonical file is accepted, and says what that of its object says.
-use Rattle.std.proofs.Common.{◌≡◌, ℕ, zero, suc, ◌+◌, ◌%◌, ◌^◌, ◌<◌, ◌≤◌, ◌==◌, ◌&&◌, true, not, List, [], ◌∷◌, ◌++◌, length, get_or, inl, inr, refl, ap, ◌∙◌, lit<, length-append, arith}
+use Rattle.std.proofs.Common.{◌≡◌, ℕ, zero, suc, ◌+◌, ◌%◌, ◌^◌, ◌<◌, ◌≤◌, ◌==◌, ◌&&◌, Bool, true, false, not, Some, None, if◌then◌else◌, List, [], ◌∷◌, ◌++◌, length, get_or, inl, inr, refl, sym, ap, subst, ◌∙◌, lit<, length-append, arith}
 use Rattle.std.specs.{Prelude.nat_lt, Prelude.nat_le, List.All, List.AllZip, List.flat_map}
-use Rattle.std.proofs.lemmas.Bool.{cases_lt, and_from}
+use Rattle.std.proofs.lemmas.Bool.{cases_lt, and_from, ne_eqb}
 use Rattle.bpf_words.specs.{declared.Order.Order, Words.word32}
 use Rattle.bpf_words.proofs.WordLemmas.{length-word32}
 use Rattle.bpf_elf.specs.{Header.FILE_LIMIT, Names.NAME_LIMIT, Names.string_at, Rules.AllHold}
@@ -9,28 +9,33 @@ use Rattle.bpf_elf.proofs.RuleLemmas.{both_hold}
 use Rattle.btf_raw.specs.{Header.STRINGS_LIMIT}
 use Rattle.btf_types.specs.Names.{names}
 use Rattle.btf_types.proofs.Members.{Has}
-use Rattle.bpf_object.specs.declared.extension.Part.{TheVariants.Functions, TheVariants.Lines, TheVariants.Relocations}
+use Rattle.bpf_object.specs.Faults.{ObjectRule}
+use Rattle.bpf_object.specs.FunctionLines.{pairs_of, pair_in, is_recorded, keeps_lines}
+use Rattle.bpf_object.specs.declared.extension.Part.{Part, TheVariants.Functions, TheVariants.Lines, TheVariants.Relocations}
 use Rattle.bpf_object.specs.Objects.{Function, CoreRelocation, Group, ObjectTypes}
 use Rattle.bpf_object.specs.Canonical.{strings_of, offset_of, function_strings, relocation_strings, extension_strings, types_strings, group_bytes, part_bytes, function_bytes, line_bytes, relocation_bytes, functions_part, lines_part, relocations_part, extension_bytes, has_extension}
-use Rattle.bpf_object.specs.Extension.{Section, groups, head_rules, part_rules}
+use Rattle.bpf_object.specs.Extension.{Section, part_len, groups, head_rules, part_rules}
 use Rattle.bpf_object.specs.Groups.{function_groups, relocation_groups}
-use Rattle.bpf_object.specs.Lines.{pairs_rules, accesses_rules, extension_rules}
+use Rattle.bpf_object.specs.Lines.{lines_part as part_with_lines, pairs_rules, accesses_rules, section_rules, extension_rules}
 use Rattle.bpf_object.proofs.{ReadBackTests.less_test, ReadBackTests.most_test}
 use Rattle.bpf_object.proofs.CanonNames.{has_left, has_right, has_mapped, name_reads, name_inside}
 use Rattle.bpf_object.proofs.CanonBtfKept.{has_flat}
 use Rattle.bpf_object.proofs.CanonGroups.{FitsGroup, IsNamed, IsPartAt, groups_of_part, part_quarter, part_kept}
 use Rattle.bpf_object.proofs.CanonExtensionHead.{header_len_is, functions_offset, functions_len, functions_there, lines_offset, lines_len, lines_there, relocations_offset, relocations_len, relocations_there, head_kept}
-use Rattle.bpf_object.proofs.CanonExtensionValid.{no_function, no_core_relocation, IsValidGroup, AreValidFunctions, AreValidRelocations}
+use Rattle.bpf_object.proofs.CanonFunctions.{is_kept_by, pairs_kept_back}
+use Rattle.bpf_object.proofs.CanonExtensionValid.{no_function, no_core_relocation, are_apart, IsValidGroup, AreValidFunctions, AreValidRelocations}
 use Rattle.bpf_object.proofs.CanonExtensionRecords.{function_size, line_size, relocation_size, AtFunctions, AtLines, AtRelocations, IsRead, AreNoted, functions_back, pairs_kept, relocations_back, accesses_kept}
 
 -- what .BTF.ext says of code keeps the rules
 pub record IsValidExtension (t : ObjectTypes) : Type 0 where
   pub functions : All AreValidFunctions t.functions
+  pub apart : are_apart [] t.functions ≡ true
   pub relocations : All AreValidRelocations t.relocations
 
 -- a section that keeps the rules and says the same
 pub record SaysExtension (x : Section) (t : ObjectTypes) : Type 0 where
-  pub rules : AllHold (extension_rules x)
+  pub rules : (symbols : List ObjectRule) → AllHold symbols → AllHold (extension_rules x symbols)
+  pub lines : (name : List ℕ) (value size : ℕ) → is_kept_by t.functions name value size ≡ true → keeps_lines x name value size ≡ true
   pub functions : function_groups x ≡ t.functions
   pub relocations : relocation_groups x ≡ t.relocations
 
@@ -69,6 +74,11 @@ group_named xs gr its =
     }
 
 -- ---- it isn't empty
+
+no_places : {A : Type 0} (P : A → ℕ → Type 0) (xs : List A) (places : List ℕ) → AllZip P xs places → xs ≡ [] → places ≡ []
+no_places P [] [] at none = refl
+no_places P [] (g ∷ places) at none = absurd at
+no_places P (x ∷ xs) places at none = absurd cc
 
 some_groups : (a b : ℕ) → not (a == 0 && b == 0) ≡ true → 0 < a + b
 some_groups zero zero h = absurd cc
@@ -227,21 +237,57 @@ module _ (o : Order) (start : ℕ) (t : ObjectTypes) (valid : IsValidExtension t
   strings_low : length strings < 2 ^ 32
   strings_low = omega (arith, strings_fit)
 
-  last_kept : AllHold (pairs_rules x (groups x Functions) (groups x Lines) ++ accesses_rules x (groups x Relocations))
-  last_kept =
-      both_hold (pairs_rules x (groups x Functions) (groups x Lines)) (accesses_rules x (groups x Relocations))
-      (pairs_kept x place t.functions (groups x Functions) (groups x Lines) valid.functions function_places line_offsets)
-      (accesses_kept x place strings_low t.relocations (groups x Relocations) valid.relocations accesses_noted relocation_offsets)
+  -- the part that has the lines: that of functions, if both are empty
+  has_lines : (gr : Group Function) (grs : List (Group Function)) → t.functions ≡ gr ∷ grs → part_with_lines x ≡ Lines
+  has_lines gr grs some =
+      let len = lines_len o start functions lines relocations strings short in
+      let long : 0 < length lines = some_bytes o 16 (group_bytes o place (line_bytes o)) t.functions (omega (arith, ap length some)) in
+      ap (λ (y : Bool). if y then Functions else Lines) (ne_eqb (part_len x Lines) 0 (λ e. omega (arith, e, len, long)))
+
+  no_groups : t.functions ≡ [] → (y : Bool) → groups x (if y then Functions else Lines) ≡ []
+  no_groups none true = no_places (AtFunctions x place) t.functions (groups x Functions) function_places none
+  no_groups none false = no_places (AtLines x place) t.functions (groups x Lines) line_offsets none
+
+  no_functions : t.functions ≡ [] → groups x Functions ≡ []
+  no_functions none = no_groups none true
+
+  no_lines : t.functions ≡ [] → groups x (part_with_lines x) ≡ []
+  no_lines none = no_groups none (part_len x Lines == 0)
+
+  pairs_hold : (gs : List (Group Function)) → t.functions ≡ gs → AllHold (pairs_rules x (part_with_lines x) [] (groups x Functions) (groups x (part_with_lines x)))
+  pairs_hold [] none =
+      subst (λ (fs : List ℕ). AllHold (pairs_rules x (part_with_lines x) [] fs (groups x (part_with_lines x)))) (sym (no_functions none))
+      (subst (λ (ls : List ℕ). AllHold (pairs_rules x (part_with_lines x) [] [] ls)) (sym (no_lines none)) refl)
+  pairs_hold (gr ∷ grs) some =
+      subst (λ (p : Part). AllHold (pairs_rules x p [] (groups x Functions) (groups x p))) (sym (has_lines gr grs some))
+      (pairs_kept x place [] t.functions (groups x Functions) (groups x Lines) valid.functions valid.apart functions_read function_places line_offsets)
+
+  symbol_lines : (gs : List (Group Function)) → t.functions ≡ gs → (name : List ℕ) (value size : ℕ) → is_kept_by t.functions name value size ≡ true → keeps_lines x name value size ≡ true
+  symbol_lines [] none name value size h =
+      subst (λ (fs : List ℕ). elim (pair_in x (pairs_of fs (groups x (part_with_lines x))) name) [ None ↦ true | Some pair ↦ is_recorded x (part_with_lines x) pair value size ] ≡ true)
+      (sym (no_functions none)) refl
+  symbol_lines (gr ∷ grs) some name value size h =
+      subst (λ (p : Part). elim (pair_in x (pairs_of (groups x Functions) (groups x p)) name) [ None ↦ true | Some pair ↦ is_recorded x p pair value size ] ≡ true)
+      (sym (has_lines gr grs some))
+      (pairs_kept_back x place t.functions (groups x Functions) (groups x Lines) name value size valid.functions functions_read function_places line_offsets h)
+
+  accesses_hold : AllHold (accesses_rules x (groups x Relocations))
+  accesses_hold = accesses_kept x place strings_low t.relocations (groups x Relocations) valid.relocations accesses_noted relocation_offsets
+
+  section_kept : has_extension t ≡ true → AllHold (section_rules x)
+  section_kept has =
+      let pairs = pairs_rules x (part_with_lines x) [] (groups x Functions) (groups x (part_with_lines x)) in
+      let head = head_kept o start functions lines relocations strings short (some_parts has) in
+      both_hold (head_rules x) (part_rules x Functions ++ (part_rules x Lines ++ (part_rules x Relocations ++ pairs))) head
+      (both_hold (part_rules x Functions) (part_rules x Lines ++ (part_rules x Relocations ++ pairs)) functions_kept
+      (both_hold (part_rules x Lines) (part_rules x Relocations ++ pairs) lines_kept (both_hold (part_rules x Relocations) pairs relocations_kept (pairs_hold t.functions refl))))
 
   pub extension_said : has_extension t ≡ true → SaysExtension written_section t
-  extension_said has =
-      let last = pairs_rules x (groups x Functions) (groups x Lines) ++ accesses_rules x (groups x Relocations) in
-      let head = head_kept o start functions lines relocations strings short (some_parts has) in
-      record {
-        rules =
-            both_hold (head_rules x) (part_rules x Functions ++ (part_rules x Lines ++ (part_rules x Relocations ++ last))) head
-            (both_hold (part_rules x Functions) (part_rules x Lines ++ (part_rules x Relocations ++ last)) functions_kept
-            (both_hold (part_rules x Lines) (part_rules x Relocations ++ last) lines_kept (both_hold (part_rules x Relocations) last relocations_kept last_kept)));
-        functions = functions_back x place t.functions (groups x Functions) valid.functions functions_read function_places;
-        relocations = relocations_back x place strings_low t.relocations (groups x Relocations) valid.relocations relocations_read accesses_noted relocation_offsets;
-      }
+  extension_said has = record {
+    rules = λ symbols hold.
+        both_hold (section_rules x) (symbols ++ accesses_rules x (groups x Relocations)) (section_kept has)
+        (both_hold symbols (accesses_rules x (groups x Relocations)) hold accesses_hold);
+    lines = symbol_lines t.functions refl;
+    functions = functions_back x place t.functions (groups x Functions) valid.functions functions_read function_places;
+    relocations = relocations_back x place strings_low t.relocations (groups x Relocations) valid.relocations relocations_read accesses_noted relocation_offsets;
+  }

@@ -1,8 +1,8 @@
 -- The functions, lines and CO-RE relocations of .BTF.ext, read back where they are written.
-use Rattle.std.proofs.Common.{◌≡◌, ℕ, zero, suc, ◌+◌, ◌^◌, ◌<◌, ◌==◌, ◌&&◌, Bool, true, List, [], ◌∷◌, ◌++◌, length, get_or, map, refl, sym, ap, ◌∙◌, length-append, arith}
+use Rattle.std.proofs.Common.{◌≡◌, ℕ, zero, suc, ◌+◌, ◌^◌, ◌<◌, ◌==◌, ◌&&◌, Bool, true, not, List, [], ◌∷◌, ◌++◌, length, get_or, map, refl, sym, ap, subst, ◌∙◌, length-append, arith}
 use Rattle.std.specs.Prelude.{nat_lt}
 use Rattle.std.specs.{List.All, List.AllZip, Str.bytes_eq}
-use Rattle.std.proofs.lemmas.Bool.{and_from}
+use Rattle.std.proofs.lemmas.Bool.{and_from, and_parts}
 use Rattle.std.proofs.lemmas.List.Elements.{All-head, All-tail}
 use Rattle.bpf_words.specs.declared.Order.{Order, TheVariants.Little, TheVariants.Big}
 use Rattle.bpf_words.specs.Words.{word32}
@@ -17,9 +17,9 @@ use Rattle.bpf_object.specs.Canonical.{function_bytes, line_bytes, relocation_by
 use Rattle.bpf_object.specs.Extension.{Section, word, group_count, record_size, record_offset}
 use Rattle.bpf_object.specs.Groups.{function_at, relocation_at, function_group, relocation_group}
 use Rattle.bpf_object.specs.Kept.{listed}
-use Rattle.bpf_object.specs.Lines.{name_of, insn_off, all_of, ascends, has_line, have_lines, is_pair, pairs_rules, access_rules, accesses_rules}
+use Rattle.bpf_object.specs.Lines.{name_of, insn_off, all_of, ascends, has_record, have_lines, is_among, is_pair, pairs_rules, access_rules, accesses_rules}
 use Rattle.bpf_object.proofs.{CanonLists.listed_is, CanonLists.number_all, ReadBackKinds.all_hold, ReadBackTests.equal_test, ReadBackTests.less_test, TestLemmas.any_found}
-use Rattle.bpf_object.proofs.CanonExtensionValid.{no_function, no_core_relocation, ascends_is, AreValidFunctions, IsValidCore, AreValidRelocations}
+use Rattle.bpf_object.proofs.CanonExtensionValid.{no_function, no_core_relocation, ascends_is, are_apart, AreValidFunctions, IsValidCore, AreValidRelocations}
 use Rattle.bpf_object.proofs.CanonGroups.{IsGroupAt}
 use Rattle.bpf_object.proofs.ReadBackWords.{HasBytes, has_first, has_rest, read_32}
 
@@ -76,7 +76,7 @@ module _ (x : Section) (place : List ℕ → ℕ) where
 
   -- ---- functions and lines
 
-  function_offset : (gr : Group Function) (g : ℕ) → AreValidFunctions gr → AtFunctions gr g → (k : ℕ) → k < length gr.records
+  pub function_offset : (gr : Group Function) (g : ℕ) → AreValidFunctions gr → AtFunctions gr g → (k : ℕ) → k < length gr.records
       → insn_off x Functions g k ≡ (get_or gr.records k no_function).offset
   function_offset gr g valid at k lt =
       let f = get_or gr.records k no_function in
@@ -91,7 +91,7 @@ module _ (x : Section) (place : List ℕ → ℕ) where
       read_32 x.order x.bytes (record_offset Functions g k + 4) f.type
       (has_rest x.bytes (record_offset Functions g k) 4 (word32 x.order f.offset) (word32 x.order f.type) here (length-word32 x.order f.offset)) (valid.each k lt).type
 
-  line_offset : (gr : Group Function) (g : ℕ) → AreValidFunctions gr → AtLines gr g → (k : ℕ) → k < length gr.records
+  pub line_offset : (gr : Group Function) (g : ℕ) → AreValidFunctions gr → AtLines gr g → (k : ℕ) → k < length gr.records
       → insn_off x Lines g k ≡ (get_or gr.records k no_function).offset
   line_offset gr g valid at k lt =
       let f = get_or gr.records k no_function in
@@ -103,9 +103,12 @@ module _ (x : Section) (place : List ℕ → ℕ) where
       (has_first x.bytes pos first zero_word (has_first x.bytes pos (first ++ zero_word) zero_word (has_first x.bytes pos (first ++ zero_word ++ zero_word) zero_word here)))
       (valid.each k lt).offset
 
+  pub function_name : (gr : Group Function) (g : ℕ) → IsRead gr.section → AtFunctions gr g → name_of x g ≡ gr.section
+  function_name gr g read at = ap (λ (off : ℕ). string_at x.strings off) at.name ∙ read
+
   function_back : (gr : Group Function) (g : ℕ) → AreValidFunctions gr → IsRead gr.section → AtFunctions gr g → function_group x g ≡ gr
   function_back gr g valid read at =
-      same_group (function_group x g) gr (ap (λ (off : ℕ). string_at x.strings off) at.name ∙ read)
+      same_group (function_group x g) gr (function_name gr g read at)
       (all_back (function_at x g) (group_count x g) gr.records no_function at.count
       (λ k lt.
       same_function (function_at x g k) (get_or gr.records k no_function) (function_offset gr g valid at k lt) (function_type gr g valid at k lt)))
@@ -120,7 +123,7 @@ module _ (x : Section) (place : List ℕ → ℕ) where
       let rest = functions_back gs places (All-tail AreValidFunctions gr gs valid) (All-tail (λ h. IsRead h.section) gr gs read) at.1 in
       ap (λ (h : Group Function). h ∷ map (function_group x) places) first ∙ ap (λ (hs : List (Group Function)). gr ∷ hs) rest
 
-  pair_kept : (gr : Group Function) (f l : ℕ) → AreValidFunctions gr → AtFunctions gr f → AtLines gr l → is_pair x f l ≡ true
+  pair_kept : (gr : Group Function) (f l : ℕ) → AreValidFunctions gr → AtFunctions gr f → AtLines gr l → is_pair x Lines f l ≡ true
   pair_kept gr f l valid at line =
       let name : bytes_eq (name_of x f) (name_of x l) ≡ true =
       ap (λ (off : ℕ). bytes_eq (string_at x.strings off) (name_of x l)) (at.name ∙ sym line.name) ∙ bytes_eq-same (name_of x l) in
@@ -128,24 +131,31 @@ module _ (x : Section) (place : List ℕ → ℕ) where
       let lines_ascend : ascends x Lines l ≡ true = ascends_is x Lines l gr.records line.count (line_offset gr l valid line) ∙ valid.ascend in
       let functions_count = at.count in
       let lines_count = line.count in
-      let lines : have_lines x f l ≡ true =
-      all_from (group_count x f) (λ k. has_line x l (insn_off x Functions f k))
+      let lines : have_lines x Lines f l ≡ true =
+      all_from (group_count x f) (λ k. has_record x Lines l (insn_off x Functions f k))
       (λ k lt.
       any_found (group_count x l) k (λ j. insn_off x Lines l j == insn_off x Functions f k) (omega (arith, lt, functions_count, lines_count))
       (equal_test (insn_off x Lines l k) (insn_off x Functions f k)
       (line_offset gr l valid line k (omega (arith, lt, functions_count)) ∙ sym (function_offset gr f valid at k (omega (arith, lt, functions_count)))))) in
-      and_from (bytes_eq (name_of x f) (name_of x l)) (ascends x Functions f && (ascends x Lines l && have_lines x f l)) name
-      (and_from (ascends x Functions f) (ascends x Lines l && have_lines x f l) functions_ascend (and_from (ascends x Lines l) (have_lines x f l) lines_ascend lines))
+      and_from (bytes_eq (name_of x f) (name_of x l)) (ascends x Functions f && (ascends x Lines l && have_lines x Lines f l)) name
+      (and_from (ascends x Functions f) (ascends x Lines l && have_lines x Lines f l) functions_ascend (and_from (ascends x Lines l) (have_lines x Lines f l) lines_ascend lines))
 
-  pub pairs_kept : (gs : List (Group Function)) (fs ls : List ℕ) → All AreValidFunctions gs → AllZip AtFunctions gs fs → AllZip AtLines gs ls → AllHold (pairs_rules x fs ls)
-  pairs_kept [] [] [] valid at lines = refl
-  pairs_kept [] [] (l ∷ ls) valid at lines = absurd lines
-  pairs_kept [] (f ∷ fs) ls valid at lines = absurd at
-  pairs_kept (gr ∷ gs) [] ls valid at lines = absurd at
-  pairs_kept (gr ∷ gs) (f ∷ fs) [] valid at lines = absurd lines
-  pairs_kept (gr ∷ gs) (f ∷ fs) (l ∷ ls) valid at lines =
+  pub pairs_kept : (earlier : List (List ℕ)) (gs : List (Group Function)) (fs ls : List ℕ) → All AreValidFunctions gs → are_apart earlier gs ≡ true → All (λ gr. IsRead gr.section) gs
+      → AllZip AtFunctions gs fs → AllZip AtLines gs ls → AllHold (pairs_rules x Lines earlier fs ls)
+  pairs_kept earlier [] [] [] valid apart read at lines = refl
+  pairs_kept earlier [] [] (l ∷ ls) valid apart read at lines = absurd lines
+  pairs_kept earlier [] (f ∷ fs) ls valid apart read at lines = absurd at
+  pairs_kept earlier (gr ∷ gs) [] ls valid apart read at lines = absurd at
+  pairs_kept earlier (gr ∷ gs) (f ∷ fs) [] valid apart read at lines = absurd lines
+  pairs_kept earlier (gr ∷ gs) (f ∷ fs) (l ∷ ls) valid apart read at lines =
       let pair = pair_kept gr f l (All-head AreValidFunctions gr gs valid) at.0 lines.0 in
-      rw pair (pairs_kept gs fs ls (All-tail AreValidFunctions gr gs valid) at.1 lines.1)
+      let name = function_name gr f (All-head (λ h. IsRead h.section) gr gs read) at.0 in
+      let parts = and_parts (not (is_among earlier gr.section)) (are_apart (earlier ++ gr.section ∷ []) gs) apart in
+      let other : not (is_among earlier (name_of x f)) ≡ true = ap (λ (n : List ℕ). not (is_among earlier n)) name ∙ parts.0 in
+      let rest = pairs_kept (earlier ++ gr.section ∷ []) gs fs ls (All-tail AreValidFunctions gr gs valid) parts.1 (All-tail (λ h. IsRead h.section) gr gs read) at.1 lines.1 in
+      let after : AllHold (pairs_rules x Lines (earlier ++ name_of x f ∷ []) fs ls) =
+      subst (λ (n : List ℕ). AllHold (pairs_rules x Lines (earlier ++ n ∷ []) fs ls)) (sym name) rest in
+      rw (pair, other) after
 
   -- ---- CO-RE relocations
 

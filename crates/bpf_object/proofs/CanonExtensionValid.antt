@@ -1,8 +1,8 @@
 -- What the rules on .BTF.ext say of its functions and CO-RE relocations.
-use Rattle.std.proofs.Common.{◌≡◌, ℕ, zero, suc, ◌+◌, ◌-◌, ◌^◌, ◌<◌, ◌≤◌, ◌==◌, ◌&&◌, ◌||◌, Bool, true, List, [], ◌∷◌, ◌++◌, length, get_or, map, refl, sym, ap, subst, ◌∙◌, arith}
+use Rattle.std.proofs.Common.{◌≡◌, ℕ, zero, suc, ◌+◌, ◌-◌, ◌^◌, ◌<◌, ◌≤◌, ◌==◌, ◌&&◌, ◌||◌, Bool, true, not, List, [], ◌∷◌, ◌++◌, length, get_or, map, refl, sym, ap, subst, ◌∙◌, arith}
 use Rattle.std.specs.Prelude.{nat_lt, nat_le}
 use Rattle.std.specs.{List.All, Str.bytes_eq}
-use Rattle.std.proofs.lemmas.Bool.{and_parts, ltb-true, leb-true}
+use Rattle.std.proofs.lemmas.Bool.{and_parts, and_from, ltb-true, leb-true}
 use Rattle.std.proofs.lemmas.List.Elements.{All-nil, All-cons}
 use Rattle.bpf_words.specs.Words.{IsBytes}
 use Rattle.bpf_words.proofs.WordLemmas.{word32_at-below}
@@ -15,7 +15,7 @@ use Rattle.bpf_object.specs.Objects.{Function, CoreRelocation, Group}
 use Rattle.bpf_object.specs.Extension.{Section, word, group_count, group_name, groups, next_group, part_end, head_rules, group_rules, groups_rules, form_rules, part_rules, record_offset}
 use Rattle.bpf_object.specs.Groups.{function_at, access_off, relocation_at, function_group, relocation_group, function_groups, relocation_groups}
 use Rattle.bpf_object.specs.{Faults.ObjectRule, Kept.listed}
-use Rattle.bpf_object.specs.Lines.{name_of, insn_off, all_of, ascends, have_lines, is_pair, pairs_rules, accesses_rules, extension_rules}
+use Rattle.bpf_object.specs.Lines.{name_of, insn_off, all_of, ascends, lines_part, have_lines, is_among, is_pair, pairs_rules, section_rules}
 use Rattle.bpf_object.proofs.CanonRules.{rule_holds, string_without_nul}
 use Rattle.bpf_object.proofs.KeptLemmas.{length-all, get-all}
 
@@ -56,6 +56,11 @@ pub record IsValidCore (r : CoreRelocation) : Type 0 where
 pub record AreValidRelocations (gr : Group CoreRelocation) : Type 0 where
   pub group : IsValidGroup gr
   pub each : (k : ℕ) → k < length gr.records → IsValidCore (get_or gr.records k no_core_relocation)
+
+-- no two groups are of sections with one name, nor of one with an earlier name
+abbrev pub are_apart : List (List ℕ) → List (Group Function) → Bool
+are_apart earlier [] = true
+are_apart earlier (gr ∷ gs) = not (is_among earlier gr.section) && are_apart (earlier ++ gr.section ∷ []) gs
 
 -- ---- tests of the first numbers
 
@@ -106,13 +111,13 @@ module _ (x : Section) (bytes : IsBytes x.bytes) where
 
   -- ---- functions
 
-  valid_functions : (f l : ℕ) → AllHold (group_rules x Functions f) → is_pair x f l ≡ true → AreValidFunctions (function_group x f)
-  valid_functions f l rules pair =
+  valid_functions : (p : Part) (f l : ℕ) → AllHold (group_rules x Functions f) → is_pair x p f l ≡ true → AreValidFunctions (function_group x f)
+  valid_functions p f l rules pair =
       let count = length-all (function_at x f) (group_count x f) in
       let at : (k : ℕ) → k < length (function_group x f).records → get_or (function_group x f).records k no_function ≡ function_at x f k =
       λ k lt. get-all (function_at x f) (group_count x f) k no_function (omega (arith, lt, count)) in
-      let rest = and_parts (bytes_eq (name_of x f) (name_of x l)) (ascends x Functions f && (ascends x Lines l && have_lines x f l)) pair in
-      let ascend = (and_parts (ascends x Functions f) (ascends x Lines l && have_lines x f l) rest.1).0 in
+      let rest = and_parts (bytes_eq (name_of x f) (name_of x l)) (ascends x Functions f && (ascends x p l && have_lines x p f l)) pair in
+      let ascend = (and_parts (ascends x Functions f) (ascends x p l && have_lines x p f l) rest.1).0 in
       record {
         group = valid_group (function_at x f) f (group_facts Functions f rules);
         each = λ k lt.
@@ -122,14 +127,23 @@ module _ (x : Section) (bytes : IsBytes x.bytes) where
             sym (ascends_is x Functions f (function_group x f).records (sym count) (λ k lt. ap (λ (h : Function). h.offset) (sym (at k lt)))) ∙ ascend;
       }
 
-  all_functions : (fs ls : List ℕ) → AllHold (groups_rules x Functions fs) → AllHold (pairs_rules x fs ls) → All AreValidFunctions (map (function_group x) fs)
-  all_functions [] ls rules pairs = All-nil AreValidFunctions
-  all_functions (f ∷ fs) [] rules pairs = absurd cc
-  all_functions (f ∷ fs) (l ∷ ls) rules pairs =
+  all_functions : (p : Part) (earlier : List (List ℕ)) (fs ls : List ℕ) → AllHold (groups_rules x Functions fs) → AllHold (pairs_rules x p earlier fs ls)
+      → All AreValidFunctions (map (function_group x) fs)
+  all_functions p earlier [] ls rules pairs = All-nil AreValidFunctions
+  all_functions p earlier (f ∷ fs) [] rules pairs = absurd cc
+  all_functions p earlier (f ∷ fs) (l ∷ ls) rules pairs =
       let pair = rule_holds _ _ _ pairs in
       All-cons AreValidFunctions (function_group x f) (map (function_group x) fs)
-      (valid_functions f l (first_hold (group_rules x Functions f) (groups_rules x Functions fs) rules) pair.0)
-      (all_functions fs ls (rest_hold (group_rules x Functions f) (groups_rules x Functions fs) rules) pair.1)
+      (valid_functions p f l (first_hold (group_rules x Functions f) (groups_rules x Functions fs) rules) pair.0)
+      (all_functions p (earlier ++ name_of x f ∷ []) fs ls (rest_hold (group_rules x Functions f) (groups_rules x Functions fs) rules) (rule_holds _ _ _ pair.1).1)
+
+  all_apart : (p : Part) (earlier : List (List ℕ)) (fs ls : List ℕ) → AllHold (pairs_rules x p earlier fs ls) → are_apart earlier (map (function_group x) fs) ≡ true
+  all_apart p earlier [] ls pairs = refl
+  all_apart p earlier (f ∷ fs) [] pairs = absurd cc
+  all_apart p earlier (f ∷ fs) (l ∷ ls) pairs =
+      let other = rule_holds _ _ _ (rule_holds _ _ _ pairs).1 in
+      and_from (not (is_among earlier (name_of x f))) (are_apart (earlier ++ name_of x f ∷ []) (map (function_group x) fs)) other.0
+      (all_apart p (earlier ++ name_of x f ∷ []) fs ls other.1)
 
   -- ---- CO-RE relocations
 
@@ -157,27 +171,32 @@ module _ (x : Section) (bytes : IsBytes x.bytes) where
 
   -- ---- the section
 
-  module _ (rules : AllHold (extension_rules x)) where
-    abbrev last_rules : List ObjectRule
-    last_rules = pairs_rules x (groups x Functions) (groups x Lines) ++ accesses_rules x (groups x Relocations)
+  module _ (rules : AllHold (section_rules x)) where
+    abbrev pair_rules : List ObjectRule
+    pair_rules = pairs_rules x (lines_part x) [] (groups x Functions) (groups x (lines_part x))
 
-    after_head : AllHold (part_rules x Functions ++ (part_rules x Lines ++ (part_rules x Relocations ++ last_rules)))
-    after_head = rest_hold (head_rules x) (part_rules x Functions ++ (part_rules x Lines ++ (part_rules x Relocations ++ last_rules))) rules
+    after_head : AllHold (part_rules x Functions ++ (part_rules x Lines ++ (part_rules x Relocations ++ pair_rules)))
+    after_head = rest_hold (head_rules x) (part_rules x Functions ++ (part_rules x Lines ++ (part_rules x Relocations ++ pair_rules))) rules
 
-    after_functions : AllHold (part_rules x Lines ++ (part_rules x Relocations ++ last_rules))
-    after_functions = rest_hold (part_rules x Functions) (part_rules x Lines ++ (part_rules x Relocations ++ last_rules)) after_head
+    after_functions : AllHold (part_rules x Lines ++ (part_rules x Relocations ++ pair_rules))
+    after_functions = rest_hold (part_rules x Functions) (part_rules x Lines ++ (part_rules x Relocations ++ pair_rules)) after_head
 
-    after_lines : AllHold (part_rules x Relocations ++ last_rules)
-    after_lines = rest_hold (part_rules x Lines) (part_rules x Relocations ++ last_rules) after_functions
+    after_lines : AllHold (part_rules x Relocations ++ pair_rules)
+    after_lines = rest_hold (part_rules x Lines) (part_rules x Relocations ++ pair_rules) after_functions
 
     groups_of : (p : Part) → AllHold (part_rules x p) → AllHold (groups_rules x p (groups x p))
     groups_of p h = rest_hold (form_rules x p) (groups_rules x p (groups x p)) h
 
+    pub held_pairs : AllHold (pairs_rules x (lines_part x) [] (groups x Functions) (groups x (lines_part x)))
+    held_pairs = rest_hold (part_rules x Relocations) pair_rules after_lines
+
     pub held_functions : All AreValidFunctions (function_groups x)
     held_functions =
-        all_functions (groups x Functions) (groups x Lines)
-        (groups_of Functions (first_hold (part_rules x Functions) (part_rules x Lines ++ (part_rules x Relocations ++ last_rules)) after_head))
-        (first_hold (pairs_rules x (groups x Functions) (groups x Lines)) (accesses_rules x (groups x Relocations)) (rest_hold (part_rules x Relocations) last_rules after_lines))
+        all_functions (lines_part x) [] (groups x Functions) (groups x (lines_part x))
+        (groups_of Functions (first_hold (part_rules x Functions) (part_rules x Lines ++ (part_rules x Relocations ++ pair_rules)) after_head)) held_pairs
+
+    pub held_apart : are_apart [] (function_groups x) ≡ true
+    held_apart = all_apart (lines_part x) [] (groups x Functions) (groups x (lines_part x)) held_pairs
 
     pub held_relocations : All AreValidRelocations (relocation_groups x)
-    held_relocations = all_relocations (groups x Relocations) (groups_of Relocations (first_hold (part_rules x Relocations) last_rules after_lines))
+    held_relocations = all_relocations (groups x Relocations) (groups_of Relocations (first_hold (part_rules x Relocations) pair_rules after_lines))

@@ -1,22 +1,27 @@
 -- What the types of an accepted file have.
-use Rattle.std.proofs.Common.{◌≡◌, ℕ, ◌+◌, ◌==◌, Bool, true, false, cond, List, [], map, if◌then◌else◌, refl, sym, ap, subst, ◌∙◌}
+use Rattle.std.proofs.Common.{◌≡◌, ℕ, ◌+◌, ◌<◌, ◌==◌, Bool, true, false, cond, Option, List, [], map, if◌then◌else◌, refl, sym, ap, subst, ◌∙◌}
 use Rattle.std.specs.List.{All}
 use Rattle.std.proofs.lemmas.List.Elements.{All-nil}
 use Rattle.bpf_words.specs.{declared.Order.Order, declared.Order.TheVariants.Little, declared.Order.TheVariants.Big}
 use Rattle.bpf_words.specs.Words.{IsBytes, word32_at}
 use Rattle.bpf_words.proofs.WordLemmas.{IsBytes-take, IsBytes-drop}
-use Rattle.bpf_elf.specs.{Numbers.offset, Rules.AllHold, Sections.content, Sections.file_size}
+use Rattle.bpf_elf.specs.{ElfRules.IsElf, Numbers.offset, Rules.AllHold, Sections.content, Sections.file_size, Symbols.symbol_count}
+use Rattle.bpf_elf.proofs.RuleLemmas.{each_holds}
 use Rattle.btf_types.specs.{Valid.IsValid}
 use Rattle.bpf_object.specs.declared.extension.Part.{Part, TheVariants.Functions, TheVariants.Relocations}
 use Rattle.bpf_object.specs.Objects.{ObjectTypes}
-use Rattle.bpf_object.specs.Denotes.{types_of, extension_at, extension_of, rules_of_extension, HoldsTypes}
+use Rattle.bpf_object.specs.Denotes.{types_of, extension_at, extension_of, rules_of_extension, object_of, HoldsTypes}
 use Rattle.bpf_object.specs.Extension.{Section, part_field, part_len, part_start, groups_from, groups}
 use Rattle.bpf_object.specs.Groups.{function_group, relocation_group, function_groups, relocation_groups}
-use Rattle.bpf_object.specs.Lines.{extension_rules}
+use Rattle.bpf_object.specs.FunctionLines.{function_rules, functions_rules}
+use Rattle.bpf_object.specs.Lines.{lines_part, extension_rules}
 use Rattle.bpf_object.proofs.ReadBackTests.{equal_test}
 use Rattle.bpf_object.proofs.CanonBtfRules.{AreFree, held_free}
-use Rattle.bpf_object.proofs.CanonExtensionValid.{AreValidFunctions, AreValidRelocations, held_functions, held_relocations}
+use Rattle.bpf_object.proofs.CanonExtensionValid.{are_apart, AreValidFunctions, AreValidRelocations, held_functions, held_apart, held_pairs, held_relocations}
 use Rattle.bpf_object.proofs.CanonExtensionKept.{IsValidExtension}
+use Rattle.bpf_object.proofs.ExtensionLemmas.{section_held, symbols_held}
+use Rattle.bpf_object.proofs.CanonFunctions.{pairs_keep}
+use Rattle.bpf_object.proofs.CanonFunctionSymbols.{SymbolKeeps, KeepsFunctions, rule_keeps, object_keeps}
 
 -- ---- an empty .BTF.ext
 
@@ -44,6 +49,7 @@ content_bytes b i bytes = IsBytes-take (file_size b i) _ (IsBytes-drop (offset b
 -- groups that keep the rules
 pub record AreValidGroups (x : Section) : Type 0 where
   pub functions : All AreValidFunctions (function_groups x)
+  pub apart : are_apart [] (function_groups x) ≡ true
   pub relocations : All AreValidRelocations (relocation_groups x)
 
 module _ (b strings : List ℕ) (bytes : IsBytes b) where
@@ -52,20 +58,53 @@ module _ (b strings : List ℕ) (bytes : IsBytes b) where
       let empty : (extension_of b strings).bytes ≡ [] = ap (λ (y : Bool). if y then [] else content b (extension_at b)) none in
       record {
         functions = subst (All AreValidFunctions) (sym (no_functions (extension_of b strings) empty)) (All-nil AreValidFunctions);
+        apart = ap (are_apart []) (no_functions (extension_of b strings) empty);
         relocations = subst (All AreValidRelocations) (sym (no_relocations (extension_of b strings) empty)) (All-nil AreValidRelocations);
       }
   with_section false some rules =
       let whole : (extension_of b strings).bytes ≡ content b (extension_at b) = ap (λ (y : Bool). if y then [] else content b (extension_at b)) some in
       let fits : IsBytes (extension_of b strings).bytes = subst IsBytes (sym whole) (content_bytes b (extension_at b) bytes) in
-      let keeps : AllHold (extension_rules (extension_of b strings)) =
-      subst (λ (y : Bool). AllHold (if y then [] else extension_rules (extension_of b strings))) some rules in
+      let symbols = functions_rules b (extension_of b strings) in
+      let all : AllHold (extension_rules (extension_of b strings) symbols) =
+      subst (λ (y : Bool). AllHold (if y then [] else extension_rules (extension_of b strings) symbols)) some rules in
+      let keeps = section_held (extension_of b strings) symbols all in
       record {
         functions = held_functions (extension_of b strings) fits keeps;
+        apart = held_apart (extension_of b strings) fits keeps;
         relocations = held_relocations (extension_of b strings) fits keeps;
       }
 
   pub valid_groups : AllHold (rules_of_extension b strings) → AreValidGroups (extension_of b strings)
   valid_groups rules = with_section (extension_at b == 0) refl rules
+
+-- ---- the symbols of functions
+
+module _ (b strings : List ℕ) (bytes : IsBytes b) (elf : IsElf b) (t : Option ObjectTypes) where
+  abbrev x : Section
+  x = extension_of b strings
+
+  symbol_held : AllHold (extension_rules x (functions_rules b x)) → IsBytes x.bytes → (j : ℕ) → j < symbol_count b → SymbolKeeps b (function_groups x) j
+  symbol_held rules fits j lt =
+      let pairs = held_pairs x fits (section_held x (functions_rules b x) rules) in
+      rule_keeps b x (function_groups x) j (λ n value size h. pairs_keep x (lines_part x) [] (groups x Functions) (groups x (lines_part x)) n value size pairs h)
+      (each_holds (symbol_count b) j (function_rules b x) lt (symbols_held x (functions_rules b x) rules))
+
+  keeps_with : (there : Bool) → (extension_at b == 0) ≡ there → AllHold (rules_of_extension b strings) → KeepsFunctions (object_of b t) (function_groups x)
+  keeps_with true none rules =
+      let empty : x.bytes ≡ [] = ap (λ (y : Bool). if y then [] else content b (extension_at b)) none in
+      subst (KeepsFunctions (object_of b t)) (sym (no_functions x empty)) (λ i lt is other. refl)
+  keeps_with false some rules =
+      let whole : x.bytes ≡ content b (extension_at b) = ap (λ (y : Bool). if y then [] else content b (extension_at b)) some in
+      let fits : IsBytes x.bytes = subst IsBytes (sym whole) (content_bytes b (extension_at b) bytes) in
+      let all : AllHold (extension_rules x (functions_rules b x)) =
+      subst (λ (y : Bool). AllHold (if y then [] else extension_rules x (functions_rules b x))) some rules in
+      object_keeps b elf t (function_groups x) (symbol_held all fits)
+
+-- those of an object keep the rule by its functions
+pub functions_are_kept : (b : List ℕ) (o : Option ObjectTypes) (t : ObjectTypes) → IsBytes b → IsElf b → HoldsTypes b t → KeepsFunctions (object_of b o) t.functions
+functions_are_kept b o t bytes elf holds =
+    let s = holds.sections in
+    subst (λ (u : ObjectTypes). KeepsFunctions (object_of b o) u.functions) (sym holds.whole) (keeps_with b s.strings bytes elf o (extension_at b == 0) refl holds.extension)
 
 -- ---- all types
 
@@ -82,5 +121,5 @@ types_are_valid b t bytes holds =
     (record {
       records = holds.types.sections.denotes.valid;
       free = held_free (types_of b) s holds.types;
-      extension = record { functions = groups.functions; relocations = groups.relocations };
+      extension = record { functions = groups.functions; apart = groups.apart; relocations = groups.relocations };
     })

@@ -2,6 +2,8 @@ pub mod GroupLemmas
 pub mod TestLemmas
 pub mod CursorLemmas
 pub mod StepLemmas
+pub mod PairLemmas
+pub mod PairSteps
 pub mod ExtensionLemmas
 pub mod FileLemmas
 pub mod KeptLemmas
@@ -53,6 +55,8 @@ pub mod CanonGroups
 pub mod CanonExtensionHead
 pub mod CanonExtensionValid
 pub mod CanonExtensionRecords
+pub mod CanonFunctions
+pub mod CanonFunctionSymbols
 pub mod CanonExtensionKept
 pub mod CanonHeld
 pub mod DenotesOne

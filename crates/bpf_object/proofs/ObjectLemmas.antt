@@ -1,5 +1,5 @@
 -- A file denotes at most one object, and one that denotes an object has no fault.
-use Rattle.std.proofs.Common.{◌≡◌, ℕ, zero, suc, ◌<◌, ◌≤◌, ◌&&◌, min, Bool, true, false, lit<, Result, Ok, Err, Option, Some, None, List, [], ◌∷◌, length, take, drop, inl, inr, refl, sym, ◌∙◌, ap, subst, arith}
+use Rattle.std.proofs.Common.{◌≡◌, ℕ, zero, suc, ◌<◌, ◌≤◌, ◌&&◌, min, Bool, true, false, lit<, Result, Ok, Err, Option, Some, None, List, [], ◌∷◌, ◌++◌, length, take, drop, inl, inr, refl, sym, ◌∙◌, ap, subst, arith}
 use Rattle.std.proofs.lemmas.Bool.{cases_lt, Decides.nat_tests}
 use Rattle.std.specs.Prelude.{MatchResult, ◌==◌, if◌then◌else◌}
 use Rattle.bpf_words.specs.{Words.IsBytes}
@@ -9,18 +9,22 @@ use Rattle.bpf_elf.specs.Sections.{file_size}
 use Rattle.btf_types.specs.{Sections.SectionWords, Sections.records_in}
 use Rattle.btf_types.proofs.{CheckLemmas.FaultLaws.no_fault_is_accepted}
 use Rattle.bpf_object.specs.declared.fault.{ObjectError.ObjectError, ObjectFault.ObjectFault}
+use Rattle.bpf_object.specs.declared.extension.Part.TheVariants.{Relocations}
 use Rattle.bpf_object.specs.declared.fault.ObjectError.TheVariants as errors
 use Rattle.bpf_object.specs.Canonical.{btf_bytes, canonical}
 use Rattle.bpf_object.specs.Denotes.{Denotes, HoldsTypes, TypesAre, types_at, types_of, extension_at, rules_of_extension, object_types, object_of, extension_of, btf_fits, types_fit, result_limit, is_small, IsCanonicalFile}
 use Rattle.bpf_object.specs.private.ObjectWriter.{AreContents, fits}
 use Rattle.bpf_object.specs.private.Written.{btf_content, extension_content}
-use Rattle.bpf_object.specs.{Extension.Section, Faults.IsFirstFault, Faults.ObjectRule, Lines.extension_rules}
+use Rattle.bpf_object.specs.{Extension.Section, Extension.groups, Faults.IsFirstFault, Faults.FailsRules, Faults.ObjectRule, FunctionLines.functions_rules}
+use Rattle.bpf_object.specs.Lines.{accesses_rules, section_rules, extension_rules}
 use Rattle.bpf_object.specs.ObjectFaults.{IsFault, of_elf, without_types, of_types, of_extension, of_result, IsWithoutTypesFault, IsFaultOfTypes, IsFaultOfExtension, IsFaultOfResult, IsTooLarge, Fails, FailsToFit}
 use Rattle.bpf_object.specs.Objects.{ObjectTypes, Object}
 use Rattle.bpf_object.specs.declared.source.Source.{Source}
-use Rattle.bpf_object.specs.{private.NotedStrings.IsChecked, Sources.section, private.WrittenTypes.IsRead, private.WrittenTypes.AreTooLong}
+use Rattle.bpf_object.specs.{Sources.section, Sources.HasParts, private.WrittenTypes.IsRead, private.WrittenTypes.AreTooLong}
 use Rattle.bpf_object.specs.Types.{TypesSection}
 use Rattle.bpf_object.specs.TypesFaults.{KeepsTypes, IsTypesFault, FailsTypes, of_size, of_btf, of_rules}
+use Rattle.bpf_elf.proofs.RuleLemmas.{both_hold}
+use Rattle.bpf_object.proofs.{ExtensionLemmas.first_fails, ExtensionLemmas.then_fails, InsideLemmas.accesses_inside}
 use Rattle.bpf_object.proofs.DenotesOne.{words_one, types_one, denotes_one}
 use Rattle.bpf_object.proofs.WrittenObject.{types_too_long, extension_too_long}
 use Rattle.bpf_object.proofs.ReadBackTests.{over_test}
@@ -100,21 +104,44 @@ chosen : {A : Type 0} (x : Bool) (a d : A) → x ≡ false → (if x then a else
 chosen true a d off = absurd (different off)
 chosen false a d off = refl
 
-read_by : {A : Type 0} (x : Source) (xs ys : List ObjectRule) (r : Result A ObjectFault) → xs ≡ ys
-    → MatchResult r (λ _. AllHold xs × IsChecked x) (IsFirstFault xs) → MatchResult r (λ _. AllHold ys × IsRead x) (IsFirstFault ys)
-read_by x xs ys (Ok v) same h = (subst AllHold same h.0, inr h.1)
-read_by x xs ys (Err f) same h = subst (λ (rules : List ObjectRule). IsFirstFault rules f) same h
-
--- a .BTF.ext that is there is checked by its rules
-pub source_checked : {A : Type 0} (b : List ℕ) (x : Source) (at : ℕ) (r : Result A ObjectFault) → at ≡ extension_at b → 0 < at
-    → section x ≡ extension_of b x.strings.now
-    → MatchResult r (λ _. AllHold (extension_rules (section x)) × IsChecked x) (IsFirstFault (extension_rules (section x)))
-    → MatchResult r (λ _. AllHold (rules_of_extension b x.strings.now) × IsRead x) (IsFirstFault (rules_of_extension b x.strings.now))
-source_checked b x at r found some own checks =
+-- the rules on a .BTF.ext that is there
+pub own_rules : (b : List ℕ) (x : Source) (at : ℕ) → at ≡ extension_at b → 0 < at → section x ≡ extension_of b x.strings.now
+    → extension_rules (section x) (functions_rules b (section x)) ≡ rules_of_extension b x.strings.now
+own_rules b x at found some own =
     let there : (extension_at b == 0) ≡ false = no_zero (extension_at b) (omega (arith, some, found)) in
-    let same : extension_rules (section x) ≡ rules_of_extension b x.strings.now =
-    ap extension_rules own ∙ sym (chosen (extension_at b == 0) [] (extension_rules (extension_of b x.strings.now)) there) in
-    read_by x (extension_rules (section x)) (rules_of_extension b x.strings.now) r same checks
+    let rules = λ (s : Section). extension_rules s (functions_rules b s) in
+    ap rules own ∙ sym (chosen (extension_at b == 0) [] (rules (extension_of b x.strings.now)) there)
+
+-- what the checks of its rules in sequence say
+module _ (b : List ℕ) (x : Source) (at : ℕ) (found : at ≡ extension_at b) (some : 0 < at) (own : section x ≡ extension_of b x.strings.now) where
+  abbrev symbols : List ObjectRule
+  symbols = functions_rules b (section x)
+
+  abbrev accesses : List ObjectRule
+  accesses = accesses_rules (section x) (groups (section x) Relocations)
+
+  own_fails : (e : ObjectError) → FailsRules (section_rules (section x) ++ (symbols ++ accesses)) e → FailsRules (rules_of_extension b x.strings.now) e
+  own_fails e h = subst (λ (rules : List ObjectRule). FailsRules rules e) (own_rules b x at found some own) h
+
+  pub section_fails : (e : ObjectError) → FailsRules (section_rules (section x)) e → FailsRules (rules_of_extension b x.strings.now) e
+  section_fails e h = own_fails e (first_fails (section_rules (section x)) (symbols ++ accesses) e h)
+
+  pub symbols_fail : (e : ObjectError) → AllHold (section_rules (section x)) → FailsRules symbols e → FailsRules (rules_of_extension b x.strings.now) e
+  symbols_fail e hold h = own_fails e (then_fails (section_rules (section x)) (symbols ++ accesses) e hold (first_fails symbols accesses e h))
+
+  pub accesses_fail : (f : ObjectFault) → AllHold (section_rules (section x)) → AllHold symbols → IsFirstFault accesses f → IsFirstFault (rules_of_extension b x.strings.now) f
+  accesses_fail f hold held h = own_fails (errors.Fault f) (then_fails (section_rules (section x)) (symbols ++ accesses) (errors.Fault f) hold (then_fails symbols accesses (errors.Fault f) held h))
+
+  pub source_read : AllHold (section_rules (section x)) → HasParts x → AllHold symbols → AllHold accesses → AllHold (rules_of_extension b x.strings.now) × IsRead x
+  source_read hold parts held last = (
+    subst AllHold (own_rules b x at found some own) (both_hold (section_rules (section x)) (symbols ++ accesses) hold (both_hold symbols accesses held last)),
+    inr (record { parts = parts; inside = accesses_inside x (groups (section x) Relocations) parts.relocations.groups last }),
+  )
+
+pub extension_fails : (b : List ℕ) (s : SectionWords) (e : ObjectError) → IsElf b → 0 < types_at b → KeepsTypes (types_of b) s → FailsRules (rules_of_extension b s.strings) e
+    → Fails b e
+extension_fails b s (errors.Fault f) elf there types first = of_extension (record { sections = s; elf = elf; there = there; types = types; first = first })
+extension_fails b s errors.Memory elf there types first = first
 
 -- ---- what is written
 

@@ -1,14 +1,14 @@
 -- Rules of groups that are checked one after the other.
 use Rattle.std.proofs.Common.{◌≡◌, ℕ, ◌+◌, Option, Some, None, List, [], ◌∷◌, ◌++◌, refl, sym, subst}
-use Rattle.std.specs.Prelude.{Result, MatchResult}
+use Rattle.std.specs.Prelude.{Result, MatchResult, not}
 use Rattle.bpf_elf.specs.Rules.{Broken, broken, rule, first_broken, AllHold, each}
 use Rattle.bpf_elf.proofs.RuleLemmas.{stays_first, after_holding}
 use Rattle.bpf_object.specs.declared.{fault.ObjectCause.ObjectCause, fault.ObjectFault.ObjectFault}
 use Rattle.bpf_object.specs.declared.fault.ObjectCause.TheVariants as cause
-use Rattle.bpf_object.specs.declared.extension.Part.TheVariants.{Functions, Lines, Relocations}
+use Rattle.bpf_object.specs.declared.extension.Part.{Part, TheVariants.Functions, TheVariants.Relocations}
 use Rattle.bpf_object.specs.Faults.{ObjectRule, Checks}
 use Rattle.bpf_object.specs.Extension.{Section, part_end, group_count}
-use Rattle.bpf_object.specs.Lines.{is_pair, pairs_rules, access_rules, accesses_rules}
+use Rattle.bpf_object.specs.Lines.{name_of, is_among, is_pair, pairs_rules, access_rules, accesses_rules}
 use Rattle.bpf_object.specs.private.Cursors.{rest_of}
 use Rattle.bpf_object.proofs.GroupLemmas.{later}
 
@@ -45,27 +45,30 @@ accesses_after s o g next is step h =
 
 -- ---- functions and lines
 
-pub pairs_of : (s : Section) (fs ls gs hs : List ℕ) → fs ≡ gs → ls ≡ hs → first_broken (pairs_rules s fs ls) ≡ first_broken (pairs_rules s gs hs)
-pairs_of s fs ls gs hs functions lines = rw (functions, lines) refl
+-- the rules on groups at the same index
+abbrev pub pair_rules : Section → Part → List (List ℕ) → ℕ → ℕ → List ObjectRule
+pair_rules s p earlier f l =
+    rule cause.ExtensionLines (s.start + f) (is_pair s p f l) ∷ rule cause.ExtensionGroupTwice (s.start + f) (not (is_among earlier (name_of s f))) ∷ []
 
-pub pairs_at : (s : Section) (fs ls : Option ℕ) (f l : Option ℕ) → fs ≡ f → ls ≡ l
-    → first_broken (pairs_rules s (rest_of s Functions fs) (rest_of s Lines ls)) ≡ first_broken (pairs_rules s (rest_of s Functions f) (rest_of s Lines l))
-pairs_at s fs ls f l there here = rw (there, here) refl
+pub pairs_at : (s : Section) (p : Part) (earlier : List (List ℕ)) (fs ls : Option ℕ) (f l : Option ℕ) → fs ≡ f → ls ≡ l
+    → first_broken (pairs_rules s p earlier (rest_of s Functions fs) (rest_of s p ls)) ≡ first_broken (pairs_rules s p earlier (rest_of s Functions f) (rest_of s p l))
+pairs_at s p earlier fs ls f l there here = rw (there, here) refl
 
-pub pairs_fault : (s : Section) (f l : ℕ) (fault : Broken ObjectCause) → first_broken (rule cause.ExtensionLines (s.start + f) (is_pair s f l) ∷ []) ≡ Some fault
-    → first_broken (pairs_rules s (rest_of s Functions (Some f)) (rest_of s Lines (Some l))) ≡ Some fault
+pub pairs_fault : (s : Section) (p : Part) (earlier : List (List ℕ)) (f l : ℕ) (fault : Broken ObjectCause) → first_broken (pair_rules s p earlier f l) ≡ Some fault
+    → first_broken (pairs_rules s p earlier (rest_of s Functions (Some f)) (rest_of s p (Some l))) ≡ Some fault
 unfolding later
-pairs_fault s f l fault h =
-    let after = pairs_rules s (later s Functions f (part_end s Functions)) (later s Lines l (part_end s Lines)) in
-    stays_first (rule cause.ExtensionLines (s.start + f) (is_pair s f l) ∷ []) after fault h
+pairs_fault s p earlier f l fault h =
+    let after = pairs_rules s p (earlier ++ name_of s f ∷ []) (later s Functions f (part_end s Functions)) (later s p l (part_end s p)) in
+    stays_first (pair_rules s p earlier f l) after fault h
 
-pub pairs_after : (s : Section) (f l : ℕ) (fs ls : Option ℕ) → rest_of s Functions (Some f) ≡ f ∷ rest_of s Functions fs
-    → rest_of s Lines (Some l) ≡ l ∷ rest_of s Lines ls → AllHold (rule cause.ExtensionLines (s.start + f) (is_pair s f l) ∷ [])
-    → first_broken (pairs_rules s (rest_of s Functions (Some f)) (rest_of s Lines (Some l))) ≡ first_broken (pairs_rules s (rest_of s Functions fs) (rest_of s Lines ls))
-pairs_after s f l fs ls functions lines h =
-    let after = first_broken (pairs_rules s (rest_of s Functions fs) (rest_of s Lines ls)) in
-    let split : first_broken (pairs_rules s (f ∷ rest_of s Functions fs) (l ∷ rest_of s Lines ls)) ≡ after =
-    after_holding (rule cause.ExtensionLines (s.start + f) (is_pair s f l) ∷ []) (pairs_rules s (rest_of s Functions fs) (rest_of s Lines ls)) h in
-    let here : first_broken (pairs_rules s (rest_of s Functions (Some f)) (l ∷ rest_of s Lines ls)) ≡ after =
-    subst (λ (gs : List ℕ). first_broken (pairs_rules s gs (l ∷ rest_of s Lines ls)) ≡ after) (sym functions) split in
-    subst (λ (gs : List ℕ). first_broken (pairs_rules s (rest_of s Functions (Some f)) gs) ≡ after) (sym lines) here
+pub pairs_after : (s : Section) (p : Part) (earlier : List (List ℕ)) (f l : ℕ) (fs ls : Option ℕ) → rest_of s Functions (Some f) ≡ f ∷ rest_of s Functions fs
+    → rest_of s p (Some l) ≡ l ∷ rest_of s p ls → AllHold (pair_rules s p earlier f l)
+    → first_broken (pairs_rules s p earlier (rest_of s Functions (Some f)) (rest_of s p (Some l)))
+    ≡ first_broken (pairs_rules s p (earlier ++ name_of s f ∷ []) (rest_of s Functions fs) (rest_of s p ls))
+pairs_after s p earlier f l fs ls functions lines h =
+    let next = pairs_rules s p (earlier ++ name_of s f ∷ []) (rest_of s Functions fs) (rest_of s p ls) in
+    let split : first_broken (pairs_rules s p earlier (f ∷ rest_of s Functions fs) (l ∷ rest_of s p ls)) ≡ first_broken next =
+    after_holding (pair_rules s p earlier f l) next h in
+    let here : first_broken (pairs_rules s p earlier (rest_of s Functions (Some f)) (l ∷ rest_of s p ls)) ≡ first_broken next =
+    subst (λ (gs : List ℕ). first_broken (pairs_rules s p earlier gs (l ∷ rest_of s p ls)) ≡ first_broken next) (sym functions) split in
+    subst (λ (gs : List ℕ). first_broken (pairs_rules s p earlier (rest_of s Functions (Some f)) gs) ≡ first_broken next) (sym lines) here

@@ -1,7 +1,7 @@
 -- Tests of the first numbers.
 use Rattle.std.proofs.Common.{◌≡◌, ℕ, zero, suc, ◌+◌, ◌-◌, ◌<◌, ◌≤◌, ◌==◌, ◌&&◌, ◌||◌, Bool, true, false, inl, inr, refl, sym, ◌∙◌, subst, add-one, arith}
-use Rattle.std.specs.Prelude.{nat_lt}
-use Rattle.std.proofs.lemmas.Bool.{cases_lt, cases_Bool, ltb-true}
+use Rattle.std.specs.Prelude.{nat_lt, nat_le}
+use Rattle.std.proofs.lemmas.Bool.{cases_lt, cases_Bool, ltb-true, lt-ltb, le-ltb, le-leb, lt-leb}
 use Rattle.std.proofs.lemmas.Bool.Decides.{nat_tests}
 use Rattle.bpf_object.specs.Lines.{all_of, any_of}
 
@@ -129,3 +129,35 @@ found_is n f i off ascends before there le =
 
 pub none_is : (n : ℕ) (f : ℕ → ℕ) (i off : ℕ) → ((k : ℕ) → k < i → f k < off) → n ≤ i → any_of n (λ k. f k == off) ≡ false
 none_is n f i off before le = any_none n (λ k. f k == off) (λ k lt. other_above (f k) off (before k (omega (arith, lt))))
+
+-- ---- numbers from one to below another
+
+-- the first number that isn't less tells whether one is from there on and below another
+pub within_is : (n : ℕ) (f : ℕ → ℕ) (i from size : ℕ) → all_of n (λ k. k == 0 || nat_lt (f (k - 1)) (f k)) ≡ true → ((k : ℕ) → k < i → f k < from)
+    → i < n → from ≤ f i → nat_lt (f i - from) size ≡ any_of n (λ k. nat_le from (f k) && nat_lt (f k) (from + size))
+within_is n f i from size ascends before there le = elim (cases_lt (f i) (from + size)) [
+  | inl inside ↦
+      lt-ltb (f i - from) size (omega (arith, inside, le))
+      ∙ sym (any_found n i (λ k. nat_le from (f k) && nat_lt (f k) (from + size)) there
+      (and_true (nat_le from (f i)) (nat_lt (f i) (from + size)) (le-leb from (f i) le) (lt-ltb (f i) (from + size) inside)))
+  | inr past ↦
+      le-ltb (f i - from) size (omega (arith, past, le))
+      ∙ sym (any_none n (λ k. nat_le from (f k) && nat_lt (f k) (from + size))
+      (λ k lt. elim (cases_lt k i) [
+        | inl below ↦ and_false_left (nat_le from (f k)) (nat_lt (f k) (from + size)) (lt-leb from (f k) (before k below))
+        | inr after ↦ and_false_right (nat_le from (f k)) (nat_lt (f k) (from + size)) (le-ltb (f k) (from + size) (not_below k lt after past))
+      ]))
+]
+  where
+    not_below : (k : ℕ) → k < n → i ≤ k → from + size ≤ f i → from + size ≤ f k
+    not_below k lt after past = elim (cases_lt i k) [
+      | inl over ↦ let greater = above n f ascends i k over lt in omega (arith, greater, past)
+      | inr to ↦
+          let same : i ≡ k = omega (arith, after, to) in
+          subst (λ (m : ℕ). from + size ≤ f m) same past
+    ]
+
+pub none_within : (n : ℕ) (f : ℕ → ℕ) (i from to : ℕ) → ((k : ℕ) → k < i → f k < from) → n ≤ i → any_of n (λ k. nat_le from (f k) && nat_lt (f k) to) ≡ false
+none_within n f i from to before le =
+    any_none n (λ k. nat_le from (f k) && nat_lt (f k) to)
+    (λ k lt. and_false_left (nat_le from (f k)) (nat_lt (f k) to) (lt-leb from (f k) (before k (omega (arith, lt, le)))))

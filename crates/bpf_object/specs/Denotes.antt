@@ -9,7 +9,7 @@ use Rattle.btf_types.specs.Sections.{SectionWords, records_in}
 use Rattle.bpf_object.specs.declared.fault.ObjectCause.TheVariants as cause
 use Rattle.bpf_object.specs.Canonical.{btf_bytes, canonical}
 use Rattle.bpf_object.specs.Extension.{Section}
-use Rattle.bpf_object.specs.Faults.{ObjectRule}
+use Rattle.bpf_object.specs.{Faults.ObjectRule, FunctionLines.functions_rules}
 use Rattle.bpf_object.specs.Groups.{function_groups, relocation_groups}
 use Rattle.bpf_object.specs.Kept.{kept_sections, kept_symbols}
 use Rattle.bpf_object.specs.Lines.{extension_rules}
@@ -38,7 +38,8 @@ extension_of b strings = record {
 
 -- the rules on it, if there is one
 abbrev pub rules_of_extension : List ℕ → List ℕ → List ObjectRule
-rules_of_extension b strings = if extension_at b == 0 then [] else extension_rules (extension_of b strings)
+rules_of_extension b strings =
+    if extension_at b == 0 then [] else extension_rules (extension_of b strings) (functions_rules b (extension_of b strings))
 
 -- and without .BTF there is none: this is reported at its section header
 abbrev pub without_types_rules : List ℕ → List ObjectRule

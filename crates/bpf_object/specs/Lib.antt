@@ -1,6 +1,7 @@
 pub mod Faults
 pub mod Extension
 pub mod Lines
+pub mod FunctionLines
 pub mod Sources
 pub mod File
 pub mod Objects

@@ -6,6 +6,7 @@ pub mod SymbolRows
 pub mod Written
 pub mod WrittenTypes
 pub mod Names
+pub mod Pairs
 pub mod Fields
 pub mod FileOf
 pub mod FileWriter

@@ -15,7 +15,7 @@ ghost use Rattle.bpf_elf.specs.{ElfRules.IsElf, Names.is_closed, Rules.AllHold};
 ghost use Rattle.bpf_object.specs.Canonical.{canonical};
 ghost use Rattle.bpf_object.specs.Denotes as spec;
 ghost use Rattle.bpf_object.specs.Denotes.{Denotes, IsCanonicalFile};
-ghost use Rattle.bpf_object.specs.Faults.{Checks, IsFirstFault};
+ghost use Rattle.bpf_object.specs.Faults.{Checks, FailsRules};
 ghost use Rattle.bpf_object.specs.ObjectFaults.{Fails};
 ghost use Rattle.bpf_object.specs.Objects.{Object};
 ghost use Rattle.bpf_object.specs.Sources.{section, IsSource};
@@ -23,8 +23,11 @@ ghost use Rattle.bpf_object.specs.TypesFaults.{KeepsTypes, FailsTypes};
 ghost use Rattle.bpf_object.specs.private.WrittenTypes.{IsRead};
 ghost use Rattle.bpf_object.specs.private.Written.{content_of, items_of};
 
-use crate::extension::check_source;
+use crate::access_checks::check_accesses;
+use crate::extension::check_section;
 use crate::fault::{ObjectCause, ObjectError, ObjectFault, require};
+use crate::function_checks::check_functions;
+use crate::line_checks::lines_part;
 use crate::names::TOO_LARGE;
 use crate::object_writer::{result_limit, write_object};
 use crate::source::Source;
@@ -61,16 +64,23 @@ pub(crate) fn own_extension<'a>(elf: &'a Elf<'_>, strings: &'a [u8]) -> Source<'
 }
 
 /// Checks .BTF.ext, if there is one.
-fn check_own_extension(elf: &Elf<'_>, x: Source<'_>) -> Result<(), ObjectFault>
+fn check_own_extension<'a, A: Allocator + Copy>(
+    alloc: A,
+    elf: &'a Elf<'_>,
+    x: Source<'a>,
+) -> Result<(), ObjectError>
     requires source { IsSource x }
     requires own { section x ≡ spec.extension_of elf.now x.strings.now }
     ensures { let rules = spec.rules_of_extension elf.now x.entry.strings.now in
-        MatchResult result (λ _. AllHold rules × IsRead x.entry) (IsFirstFault rules) }
+        MatchResult result (λ _. AllHold rules × IsRead x.entry) (FailsRules rules) }
 {
     if elf.section_of(Kind::Extension) == 0 {
         return Ok(());
     }
-    check_source(x)
+    let by_name = check_section(alloc, x)?;
+    check_functions(alloc, elf, x, lines_part(x), &by_name)?;
+    check_accesses(x)?;
+    Ok(())
 }
 
 /// Checks .BTF, which is there.
@@ -144,7 +154,7 @@ fn canon_typed<A: Allocator + Copy>(alloc: A, elf: &Elf<'_>) -> Result<Vec<u8, A
     let sections = file.sections();
     let strings = sections.strings();
     let x = own_extension(elf, strings);
-    check_own_extension(elf, x)?;
+    check_own_extension(alloc, elf, x)?;
     write_typed(alloc, elf, &sections, x)
 }
 

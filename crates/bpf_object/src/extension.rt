@@ -1,13 +1,14 @@
 //! The section .BTF.ext: its header, its parts and all of its rules.
 
-ghost use Rattle.std.specs.Prelude.{◌≡◌, ◌++◌, ◌≤◌, true, length, MatchResult};
+ghost use Rattle.std.specs.Prelude.{◌≡◌, ◌++◌, ◌≤◌, [], true, length, MatchResult};
 ghost use Rattle.bpf_elf.specs.Names.{is_closed};
 ghost use Rattle.bpf_elf.specs.Rules.{AllHold};
 ghost use Rattle.bpf_object.specs.declared.extension.Part.TheVariants.{Functions, Lines, Relocations};
-ghost use Rattle.bpf_object.specs.Faults.{Checks, IsFirstFault};
-ghost use Rattle.bpf_object.specs.Extension.{head_rules, form_rules, part_rules, groups};
-ghost use Rattle.bpf_object.specs.Lines.{pairs_rules, accesses_rules, extension_rules};
-ghost use Rattle.bpf_object.specs.private.NotedStrings.{IsChecked};
+ghost use Rattle.bpf_object.specs.Faults.{FailsRules, IsFirstFault};
+ghost use Rattle.bpf_object.specs.FunctionLines.{group_pairs};
+ghost use Rattle.bpf_object.specs.Extension.{head_rules, form_rules, part_rules};
+ghost use Rattle.bpf_object.specs.Lines.{lines_part as spec_part, section_rules, extension_rules};
+ghost use Rattle.bpf_object.specs.private.Pairs.{HasPairs};
 ghost use Rattle.bpf_object.specs.Sources.{
   section,
   IsSource,
@@ -18,11 +19,14 @@ ghost use Rattle.bpf_object.specs.Sources.{
 };
 
 use crate::access_checks::check_accesses;
-use crate::fault::{ObjectCause, ObjectFault, require};
+use crate::fault::{ObjectCause, ObjectError, ObjectFault, require};
 use crate::group_checks::check_groups;
-use crate::line_checks::check_pairs;
+use crate::line_checks::lines_part;
+use crate::pairs::{Pair, check_pairs};
 use crate::source::{Source, part_end, part_field, part_len, part_start, record_size, word};
 use bpf_words::{Order, get16};
+use std::alloc::Allocator;
+use std::collections::BTreeMap;
 
 /// A part of .BTF.ext.
 #[derive(Clone, Copy, Debug, PartialEq, Eq)]
@@ -103,27 +107,31 @@ fn check_parts(x: Source<'_>) -> Result<(), ObjectFault>
     Ok(())
 }
 
-/// Checks what the parts say of one another and of the strings.
-fn check_records(x: Source<'_>) -> Result<(), ObjectFault>
-    requires { HasParts x }
-    ensures { let s = section x.entry in
-        Checks (pairs_rules s (groups s Functions) (groups s Lines)
-        ++ accesses_rules s (groups s Relocations)) result }
-{
-    check_pairs(x)?;
-    check_accesses(x)
-}
-
-/// Checks all rules on a section.
-pub(crate) fn check_source(x: Source<'_>) -> Result<(), ObjectFault>
+/// Checks the header, the parts, and the functions and lines. Returns the groups of these by the names
+/// of their sections.
+pub(crate) fn check_section<'a, A: Allocator + Copy>(
+    alloc: A,
+    x: Source<'a>,
+) -> Result<BTreeMap<(usize, &'a [u8]), Pair, A>, ObjectError>
     requires { IsSource x }
-    ensures { MatchResult result
-        (λ _. AllHold (extension_rules (section x.entry)) × IsChecked x.entry)
-        (IsFirstFault (extension_rules (section x.entry))) }
+    ensures { let s = section x.entry in MatchResult result
+        (λ by_name. AllHold (section_rules s) × (HasParts x.entry
+        × HasPairs x.entry (spec_part s) (group_pairs s) by_name))
+        (FailsRules (section_rules s)) }
 {
     check_header(x)?;
     check_parts(x)?;
-    check_records(x)?;
+    check_pairs(alloc, x, lines_part(x))
+}
+
+/// Checks all rules on a section by itself.
+fn check_source<A: Allocator + Copy>(alloc: A, x: Source<'_>) -> Result<(), ObjectError>
+    requires { IsSource x }
+    ensures { let rules = extension_rules (section x.entry) [] in
+        MatchResult result (λ _. AllHold rules) (FailsRules rules) }
+{
+    check_section(alloc, x)?;
+    check_accesses(x)?;
     Ok(())
 }
 
@@ -136,8 +144,8 @@ pub(crate) fn check_source(x: Source<'_>) -> Result<(), ObjectFault>
 ///
 /// # Errors
 ///
-/// The first rule that the section breaks, and where in the file. The rules are checked in this
-/// sequence:
+/// `Memory` if memory can't be allocated. `Fault` with the first rule that the section breaks, and
+/// where in the file. The rules are checked in this sequence:
 ///
 /// - The header: [`ExtensionCut`](ObjectCause::ExtensionCut),
 ///   [`ExtensionMagic`](ObjectCause::ExtensionMagic),
@@ -152,26 +160,32 @@ pub(crate) fn check_source(x: Source<'_>) -> Result<(), ObjectFault>
 /// - Each group of functions with the group of lines at the same index:
 ///   [`ExtensionLines`](ObjectCause::ExtensionLines) if one of them is missing, if they are of
 ///   sections with different names, if the instruction offsets of one of them don't ascend, or if a
-///   function has no line.
+///   function has no line; then [`ExtensionGroupTwice`](ObjectCause::ExtensionGroupTwice) if an
+///   earlier group of functions is of a section with the same name. If the part of lines is empty,
+///   each function is taken for a line.
 /// - Each CO-RE relocation: [`ExtensionString`](ObjectCause::ExtensionString) if access_str_off is
 ///   not inside `strings`.
-pub fn check_extension(
+///
+/// The rule on symbols, [`FunctionLines`](ObjectCause::FunctionLines), isn't among them.
+pub fn check_extension<A: Allocator + Copy>(
+    alloc: A,
     order: Order,
     start: u32,
     bytes: &[u8],
     strings: &[u8],
-) -> Result<(), ObjectFault>
+) -> Result<(), ObjectError>
     requires strings { is_closed strings.now ≡ true }
     requires start { start ≤ 67108864 }
     requires short { length bytes.now ≤ 67108864 }
-    ensures { Checks (extension_rules
-        (record { order = order; start = start; bytes = bytes.now; strings = strings.now }))
-        result }
+    ensures { let rules = extension_rules
+        (record { order = order; start = start; bytes = bytes.now; strings = strings.now }) [] in
+        MatchResult result (λ _. AllHold rules) (FailsRules rules) }
 {
-    check_source(Source {
+    let x = Source {
         order,
         start,
         bytes,
         strings,
-    })
+    };
+    check_source(alloc, x)
 }

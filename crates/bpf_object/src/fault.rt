@@ -74,6 +74,12 @@ pub enum ObjectCause {
     /// Reported at 0.
     #[error("the canonical file has more than 64 MiB, or more than four times the file and 64 KiB, or its .BTF more than 15 MiB")]
     ResultTooLarge,
+    /// Reported at the group of functions.
+    #[error("a second group of functions has the same section")]
+    ExtensionGroupTwice,
+    /// Reported at st_value.
+    #[error("there are source lines of a function that .BTF.ext doesn't have")]
+    FunctionLines,
 }
 
 /// The first rule that a file breaks, and where.

@@ -12,8 +12,9 @@
 //! `SourceLines` the line of an instruction. Then the code, from `canon` and `accepted` on:
 //!
 //! - `types`, with `type_checks`, checks .BTF.
-//! - `extension` checks .BTF.ext: its parts in `group_checks`, and what they say of one another and
-//!   of the strings in `line_checks` and `access_checks`. `source` and `cursors` read it.
+//! - `extension` checks .BTF.ext: its parts in `group_checks`, functions with their lines in `pairs`
+//!   and `line_checks`, and access strings in `access_checks`. `function_checks` compares functions
+//!   with the symbols of the file. `source` and `cursors` read the section.
 //! - `section_groups` finds the group of records of a section, and `source_lines` in it the line of
 //!   an instruction.
 //! - `extension_file` writes .BTF.ext anew, by `groups` and `extension_writer`.
@@ -34,6 +35,7 @@ mod extension_writer;
 mod fault;
 mod fields;
 mod file_writer;
+mod function_checks;
 mod group_checks;
 mod groups;
 mod key;
@@ -42,6 +44,7 @@ mod line_checks;
 mod names;
 mod numbering;
 mod object_writer;
+mod pairs;
 mod relocation_rows;
 mod same;
 mod section_groups;

@@ -2,7 +2,7 @@
 
 mod canonical;
 
-use bpf_object::{ObjectCause as Cause, ObjectFault, check_extension};
+use bpf_object::{ObjectCause as Cause, ObjectError, ObjectFault, check_extension};
 use bpf_words::Order;
 
 /// One function with one line and one CO-RE relocation, all of .text.
@@ -32,18 +32,39 @@ const REFUSED: &[Refused] = &[
 
 #[test]
 fn the_first_fault_is_reported_where_it_is(rt: HostRuntime) {
-    let passed = check_extension(Order::Little, START, &SECTION, STRINGS);
+    let passed = check_extension(rt.alloc(), Order::Little, START, &SECTION, STRINGS);
     assert_eq!(rt; passed, Ok(()));
     for Refused(name, changed, byte, pos, cause) in REFUSED {
         let mut bytes = SECTION;
         if let Some(old) = bytes.get_mut(*changed) {
             *old = *byte;
         }
-        let found = check_extension(Order::Little, START, &bytes, STRINGS);
-        let wanted = Err(ObjectFault {
+        let found = check_extension(rt.alloc(), Order::Little, START, &bytes, STRINGS);
+        let wanted = Err(ObjectError::Fault(ObjectFault {
             pos: *pos,
             cause: *cause,
-        });
+        }));
         assert_eq!(rt; found, wanted, "{name}");
     }
+}
+
+/// Two functions of .text without lines, in one group, and in two groups.
+#[rattlefmt::skip]
+const ONE_GROUP: [u8; 60] = *b"\x9f\xeb\x01\0\x20\0\0\0\0\0\0\0\x1c\0\0\0\x1c\0\0\0\0\0\0\0\x1c\0\0\0\0\0\0\0\
+    \x08\0\0\0\x01\0\0\0\x02\0\0\0\0\0\0\0\x01\0\0\0\x08\0\0\0\x01\0\0\0";
+
+#[rattlefmt::skip]
+const TWO_GROUPS: [u8; 68] = *b"\x9f\xeb\x01\0\x20\0\0\0\0\0\0\0\x24\0\0\0\x24\0\0\0\0\0\0\0\x24\0\0\0\0\0\0\0\
+    \x08\0\0\0\x01\0\0\0\x01\0\0\0\0\0\0\0\x01\0\0\0\x01\0\0\0\x01\0\0\0\x08\0\0\0\x01\0\0\0";
+
+#[test]
+fn functions_without_lines_are_of_different_sections(rt: HostRuntime) {
+    let passed = check_extension(rt.alloc(), Order::Little, START, &ONE_GROUP, STRINGS);
+    assert_eq!(rt; passed, Ok(()));
+    let found = check_extension(rt.alloc(), Order::Little, START, &TWO_GROUPS, STRINGS);
+    let wanted = Err(ObjectError::Fault(ObjectFault {
+        pos: 0x74,
+        cause: Cause::ExtensionGroupTwice,
+    }));
+    assert_eq!(rt; found, wanted);
 }

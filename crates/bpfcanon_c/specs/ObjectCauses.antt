@@ -62,4 +62,6 @@ object_cause_number cause.ExtensionGroup = 149
 object_cause_number cause.ExtensionString = 150
 object_cause_number cause.ExtensionLines = 151
 object_cause_number cause.ResultTooLarge = 152
+object_cause_number cause.ExtensionGroupTwice = 155
+object_cause_number cause.FunctionLines = 156
 object_cause_number (cause.Types its_own) = number_of its_own

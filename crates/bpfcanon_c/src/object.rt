@@ -37,6 +37,8 @@ fn cause_number(cause: ObjectCause) -> u32
         ObjectCause::ExtensionString => 150,
         ObjectCause::ExtensionLines => 151,
         ObjectCause::ResultTooLarge => 152,
+        ObjectCause::ExtensionGroupTwice => 155,
+        ObjectCause::FunctionLines => 156,
     }
 }
 

@@ -106,6 +106,8 @@ object_cause_name cause.ExtensionGroup = codes "ExtensionGroup"
 object_cause_name cause.ExtensionString = codes "ExtensionString"
 object_cause_name cause.ExtensionLines = codes "ExtensionLines"
 object_cause_name cause.ResultTooLarge = codes "ResultTooLarge"
+object_cause_name cause.ExtensionGroupTwice = codes "ExtensionGroupTwice"
+object_cause_name cause.FunctionLines = codes "FunctionLines"
 
 -- one sentence for each cause
 abbrev pub object_cause_sentence : ObjectCause → List ℕ
@@ -129,3 +131,5 @@ object_cause_sentence cause.ExtensionGroup = codes "a group of records extends p
 object_cause_sentence cause.ExtensionString = codes "a string of .BTF.ext isn't inside the strings of .BTF, or is too long for the name of a section"
 object_cause_sentence cause.ExtensionLines = codes "functions and source lines of .BTF.ext don't match"
 object_cause_sentence cause.ResultTooLarge = codes "the canonical file has more than 64 MiB, or more than four times the file and 64 KiB, or its .BTF more than 15 MiB"
+object_cause_sentence cause.ExtensionGroupTwice = codes "a second group of functions has the same section"
+object_cause_sentence cause.FunctionLines = codes "there are source lines of a function that .BTF.ext doesn't have"

@@ -126,6 +126,8 @@ pub fn object_cause_name(cause: ObjectCause) -> &'static str
         ObjectCause::ExtensionString => "ExtensionString",
         ObjectCause::ExtensionLines => "ExtensionLines",
         ObjectCause::ResultTooLarge => "ResultTooLarge",
+        ObjectCause::ExtensionGroupTwice => "ExtensionGroupTwice",
+        ObjectCause::FunctionLines => "FunctionLines",
     }
 }
 
@@ -161,5 +163,8 @@ pub fn object_cause_sentence(cause: ObjectCause) -> &'static str
         ObjectCause::ExtensionLines => "functions and source lines of .BTF.ext don't match",
         ObjectCause::ResultTooLarge =>
             "the canonical file has more than 64 MiB, or more than four times the file and 64 KiB, or its .BTF more than 15 MiB",
+        ObjectCause::ExtensionGroupTwice => "a second group of functions has the same section",
+        ObjectCause::FunctionLines =>
+            "there are source lines of a function that .BTF.ext doesn't have",
     }
 }

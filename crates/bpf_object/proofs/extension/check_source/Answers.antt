@@ -1,35 +1,26 @@
-use Rattle.std.proofs.Common.{rules, Ok, Err}
-use Rattle.bpf_elf.proofs.RuleLemmas.{rest_hold}
-use Rattle.bpf_object.specs.declared.extension.Part.TheVariants.{Functions, Lines, Relocations}
+use Rattle.std.proofs.Common.{rules}
+use Rattle.std.proofs.lemmas.Result.{err_from_is_err_and}
+use Rattle.bpf_elf.proofs.RuleLemmas.{next_fault, both_hold}
+use Rattle.bpf_object.specs.declared.extension.Part.TheVariants.{Relocations}
 use Rattle.bpf_object.specs.Extension.{groups}
-use Rattle.bpf_object.specs.Lines.{pairs_rules, accesses_rules}
+use Rattle.bpf_object.specs.Lines.{accesses_rules, section_rules}
 use Rattle.bpf_object.specs.Sources.{section}
-use Rattle.bpf_object.proofs.ExtensionLemmas.{head_fault, parts_fault, all_checked}
-use Rattle.bpf_object.proofs.InsideLemmas.{accesses_inside}
+use Rattle.bpf_object.proofs.ExtensionLemmas.{first_fails}
 use Rattle.bpf_object.proofs.extension.check_source.Goals as goal
 
-pub returns-in_err-check_header : goal.returns-in_err-check_header
-returns-in_err-check_header c =
-    let here = head_fault (section c.args.x) _ c.in_err-check_header.ensures in
-    search rules
+pub returns-in_err-check_section : goal.returns-in_err-check_section
+returns-in_err-check_section g c =
+    let s = section c.args.x in
+    let fault = err_from_is_err_and c.from_residual.result c.from_residual.ensures.1 in
+    rw (fault.1, fault.2) (first_fails (section_rules s) (accesses_rules s (groups s Relocations)) _ c.in_err-check_section.ensures)
 
-pub returns-in_err-check_parts : goal.returns-in_err-check_parts
-returns-in_err-check_parts c =
-    let here = parts_fault (section c.args.x) _ c.in_ok-check_header.ensures.0 c.in_err-check_parts.ensures in
-    search rules
-
-pub returns-in_err-check_records : goal.returns-in_err-check_records
-returns-in_err-check_records c =
-    let here =
-    all_checked {A = Unit {0}} (section c.args.x) (Err _) c.in_ok-check_header.ensures.0 c.in_ok-check_parts.ensures.0 c.in_err-check_records.ensures in
+pub returns-in_err-check_accesses : goal.returns-in_err-check_accesses
+returns-in_err-check_accesses g c =
+    let s = section c.args.x in
+    let here = next_fault (section_rules s) (accesses_rules s (groups s Relocations)) _ c.in_ok-check_section.ensures.0 c.in_err-check_accesses.ensures in
     search rules
 
 pub returns : goal.returns
-returns c =
+returns g c =
     let s = section c.args.x in
-    let hold = c.in_ok-check_records.ensures in
-    let parts = c.in_ok-check_parts.ensures in
-    let accesses = rest_hold (pairs_rules s (groups s Functions) (groups s Lines)) (accesses_rules s (groups s Relocations)) hold in (
-      all_checked s (Ok c.in_ok-check_records.field-0) c.in_ok-check_header.ensures.0 parts.0 hold,
-      record { parts = parts.1; inside = accesses_inside c.args.x (groups s Relocations) parts.1.relocations.groups accesses },
-    )
+    both_hold (section_rules s) (accesses_rules s (groups s Relocations)) c.in_ok-check_section.ensures.0 c.in_ok-check_accesses.ensures
