@@ -3,13 +3,14 @@
     python3 canon.py [FILE] [-o OUT]
 
 This is OBJECTS.md as a program, in its words and with its causes, and FAULTS.md for .BTF by itself.
-It needs Python 3.9 or later, and no other file. FILE and OUT are standard input and output if they
-aren't named. The status is 1 for a refused file, and 2 if a file can't be read or written.
+FILE and OUT are standard input and output if they aren't named. The status is 1 for a refused file,
+and 2 if a file can't be read or written. It needs Python 3.9 or later, and no other file.
 """
 
 from __future__ import annotations
 
 import argparse
+from bisect import bisect_left
 from collections import namedtuple
 from enum import Enum
 from fnmatch import fnmatchcase
@@ -17,7 +18,7 @@ from struct import iter_unpack, pack, unpack_from
 
 MAX_FILE, MAX_TYPES, MAX_SECTION_NAME = 64 << 20, 15 << 20, 1024
 ET_REL, EM_BPF, BTF_MAGIC = 1, 247, 0xEB9F
-STB_LOCAL, STT_NOTYPE, STT_SECTION, STT_FILE = 0, 0, 3, 4
+STB_LOCAL, STT_NOTYPE, STT_FUNC, STT_SECTION, STT_FILE = 0, 0, 2, 3, 4
 SHT_PROGBITS, SHT_SYMTAB, SHT_STRTAB, SHT_NOTE, SHT_NOBITS, SHT_REL = 1, 2, 3, 7, 8, 9
 SHT_INIT_ARRAY, SHT_FINI_ARRAY, SHT_LLVM_ADDRSIG = 14, 15, 0x6FFF4C03
 # What helps with a file that isn't for BPF, and the rules that such a file breaks.
@@ -51,6 +52,7 @@ def string_at(strings: bytes, offset: int) -> bytes:
 
 # The file. Sections of two kinds are kept, and of three written anew. UNKNOWN ones are refused.
 Kind = Enum("Kind", "DATA RELOCATIONS SYMBOLS TYPES EXTENSION DROPPED UNKNOWN")
+KEPT, MANY = (Kind.DATA, Kind.RELOCATIONS), (Kind.DATA, Kind.RELOCATIONS, Kind.DROPPED)
 L, C, I = SHF_ALLOC | SHF_EXECINSTR, SHF_COMPRESSED, SHF_GROUP | SHF_LINK_ORDER | SHF_INFO_LINK
 # Types, names, flags that are 0, kind: the first row counts. The first eight have reserved names.
 KINDS = (
@@ -64,8 +66,7 @@ KINDS = (
     ((), (b".BTF.base", b".llvm.lto"), 0, Kind.UNKNOWN),
     ((SHT_REL,), (b".rel*",), L | C, Kind.RELOCATIONS),
     ((SHT_NOBITS,), (b".bss*",), C | I, Kind.DATA),
-    ((SHT_PROGBITS, SHT_NOTE, SHT_INIT_ARRAY, SHT_FINI_ARRAY), (b"*",), C | I, Kind.DATA),
-)
+    ((SHT_PROGBITS, SHT_NOTE, SHT_INIT_ARRAY, SHT_FINI_ARRAY), (b"*",), C | I, Kind.DATA))
 # The fields of a section's header, where the header is, the section's number, kind and name.
 Section = namedtuple("Section", "sh_name sh_type sh_flags sh_addr sh_offset sh_size sh_link"
     " sh_info sh_addralign sh_entsize place number kind name")  # fmt: skip
@@ -99,8 +100,7 @@ class Strings:
 def canonical(data: bytes) -> bytes:
     """The canonical file of an object file. Raises Refused for the first rule that it breaks."""
     elf = Elf(data)
-    types = read_types(elf)
-    parts = read_extension(elf, types)
+    parts = read_extension(elf, types := read_types(elf))
     result = write_file(elf, write_types(types, parts) if types else {})
     rule("ResultTooLarge", 0, len(result) <= min(MAX_FILE, 4 * len(data) + 64 * 1024))
     return result
@@ -109,14 +109,12 @@ def canonical(data: bytes) -> bytes:
 def write_file(elf: Elf, types: dict[bytes, bytes]) -> bytes:
     """The ELF header, the contents, each followed by zeros up to a multiple of 8, the headers."""
     body, headers, strings = bytearray(64), bytearray(64), Strings()
-
     def append(name: bytes, content: bytes, *header: int) -> None:
         """Appends a section. Its header begins with sh_type, and has no sh_offset."""
         row = strings.add(name), *header[:3], len(body), *header[3:]
         headers.extend(pack(elf.mark + SECTION_HEADER, *row))
         body.extend(content + bytes(-len(content) % 8))
-
-    kept = [it for it in elf.sections if it.kind in (Kind.DATA, Kind.RELOCATIONS)]
+    kept = [it for it in elf.sections if it.kind in KEPT]
     sections = {it.number: number for number, it in enumerate(kept, 1)}
     numbers = {old: new for new, old in enumerate(elf.symbols)}
     names, symtab = elf.symbol_names, 1 + len(kept) + len(types)
@@ -150,8 +148,7 @@ def write_types(types: Types, parts: list[list[Group]]) -> dict[bytes, bytes]:
     """.BTF, and .BTF.ext if it has functions or CO-RE relocations."""
     strings, written = Strings(), []
     records = write_words(types, types.records[1:], strings)
-    lines = [it._replace(records=[(one[0], 0, 0, 0) for one in it.records]) for it in parts[0]]
-    for fields, groups in zip(PARTS, (parts[0], lines, parts[2])):
+    for fields, groups in zip(PARTS, parts):
         rows = [Record(("record_size",), (4 * len(fields),))] if groups else []
         for it in groups:
             rows.append(Record((NAME, "num_info"), (it.sec_name_off, len(it.records))))
@@ -196,13 +193,11 @@ class Elf:
         rule("Segments", 56, e_phnum == 0)
         rule("SectionHeaderSize", 58, e_shentsize == 64)
         self.sections: list[Section] = []
+        self.last: dict[Kind, Section] = {}
         self.symbols: dict[int, tuple[int, ...]] = {}
         self.read_sections(e_shoff, e_shnum, e_shstrndx)
         self.read_symbols()
         self.check_relocations()
-
-    def find(self, kind: Kind) -> Section | None:
-        return next((it for it in self.sections if it.kind is kind), None)
 
     def section(self, number: int) -> Section:
         """The section with a number, or the null section if there is none."""
@@ -235,11 +230,10 @@ class Elf:
             rule("SectionName", it.place + SH_NAME, has_end)
             kind = kind_of(name := string_at(names, it.sh_name), it)
             rule("SectionKind", it.place + SH_TYPE, kind is not Kind.UNKNOWN)
-            is_single = kind in (Kind.SYMBOLS, Kind.TYPES, Kind.EXTENSION)
-            rule("SectionTwice", it.place + SH_TYPE, not is_single or self.find(kind) is None)
-            total += size if kind in (Kind.DATA, Kind.RELOCATIONS) else 0
+            rule("SectionTwice", it.place + SH_TYPE, kind in MANY or kind not in self.last)
+            total += size if kind in KEPT else 0
             rule("SectionsTooLarge", it.place, total <= len(self.data))
-            self.sections[it.number] = it._replace(name=name, kind=kind)
+            self.last[kind] = self.sections[it.number] = it._replace(name=name, kind=kind)
         for it in self.sections:
             if it.sh_type == SHT_REL:
                 target = self.section(it.sh_info)
@@ -248,7 +242,7 @@ class Elf:
                 rule("RelocationTarget", it.place + SH_INFO, is_named and is_right)
 
     def read_symbols(self) -> None:
-        if (table := self.find(Kind.SYMBOLS)) is None:
+        if (table := self.last.get(Kind.SYMBOLS)) is None:
             raise Refused("NoSymbols", 40)
         rule("SymbolTableSize", table.place + SH_SIZE, table.sh_size in range(24, MAX_FILE, 24))
         rule("SymbolEntrySize", table.place + SH_ENTSIZE, table.sh_entsize == 24)
@@ -294,13 +288,11 @@ FIELDS = {
     "ARRAY": (ZERO, TYPE, TYPE, "nelems"), "STRUCT": (SIZE,), "UNION": (SIZE,), "ENUM": (SIZE,),
     "FWD": (ZERO,), "TYPEDEF": (TYPE,), "VOLATILE": (TYPE,), "CONST": (TYPE,), "RESTRICT": (TYPE,),
     "FUNC": (TYPE,), "FUNC_PROTO": (TYPE,), "VAR": (TYPE, "linkage"), "DATASEC": (SIZE,),
-    "FLOAT": (SIZE,), "DECL_TAG": (TYPE, "component_idx"), "TYPE_TAG": (TYPE,), "ENUM64": (SIZE,),
-}  # fmt: skip
+    "FLOAT": (SIZE,), "DECL_TAG": (TYPE, "component_idx"), "TYPE_TAG": (TYPE,), "ENUM64": (SIZE,)}
 ITEM_FIELDS = {
     "STRUCT": (NAME, TYPE, "offset"), "UNION": (NAME, TYPE, "offset"), "ENUM": (NAME, "val"),
-    "FUNC_PROTO": (NAME, TYPE), "DATASEC": (TYPE, "place", "length"),
-    "ENUM64": (NAME, "val_lo32", "val_hi32"),
-}  # fmt: skip
+    "ENUM64": (NAME, "val_lo32", "val_hi32"), "FUNC_PROTO": (NAME, TYPE),
+    "DATASEC": (TYPE, "place", "length")}
 NAMELESS = {"PTR", "ARRAY", "VOLATILE", "CONST", "RESTRICT", "FUNC_PROTO"}
 NAMED = {"FWD", "TYPEDEF", "FUNC", "VAR", "DATASEC", "DECL_TAG", "TYPE_TAG"}
 WITH_FLAG = {"STRUCT", "UNION", "ENUM", "FWD", "DECL_TAG", "TYPE_TAG", "ENUM64"}
@@ -388,20 +380,16 @@ class Types:
             elif field == "linkage" or field == INFO and kind == "FUNC":
                 rule("Linkage", at, (word if field == "linkage" else vlen) <= 2)
             elif field == "component_idx":
-                rule("Component", at, word == 0xFFFFFFFF or word < self.components(size))
-
-    def components(self, number: int) -> int:
-        """How many members or parameters a type has. Any number if it is faulty itself."""
-        target, proto = self.records[number], self.records[number].words[2]
-        if target.kind == "FUNC":
-            target = self.records[proto if proto < len(self.records) else 0]
-            if target.kind != "FUNC_PROTO":
-                return 1 << 32
-        return int(target.words[1] & 0xFFFF)
+                target = owner = self.records[size]
+                if target.kind == "FUNC" and target.words[2] < len(self.records):
+                    owner = self.records[target.words[2]]
+                is_faulty = target.kind == "FUNC" and owner.kind != "FUNC_PROTO"
+                is_inside = word == 0xFFFFFFFF or word < owner.words[1] & 0xFFFF
+                rule("Component", at, is_faulty or is_inside)
 
 
 def read_types(elf: Elf) -> Types | None:
-    if (section := elf.find(Kind.TYPES)) is None:
+    if (section := elf.last.get(Kind.TYPES)) is None:
         return None
     start = section.sh_offset
     rule("TypesTooLarge", section.place + SH_SIZE, section.sh_size <= MAX_TYPES)
@@ -424,8 +412,8 @@ def read_types(elf: Elf) -> Types | None:
 
 
 def read_extension(elf: Elf, types: Types | None) -> list[list[Group]]:
-    """The groups of functions, of lines and of CO-RE relocations."""
-    section, parts = elf.find(Kind.EXTENSION), []
+    """The groups of functions, of the lines that are written, and of CO-RE relocations."""
+    section, parts = elf.last.get(Kind.EXTENSION), []
     if section is None:
         return [[], [], []]
     if types is None:
@@ -442,12 +430,13 @@ def read_extension(elf: Elf, types: Types | None) -> list[list[Group]]:
         rule("ExtensionPart", start + place, is_inside and offset % 4 == length % 4 == 0)
         at = start + hdr_len + offset
         parts.append(read_part(elf, types.strings, at, at + length, len(fields)))
-    check_lines(types.strings, *parts[:2])
+    lines = [it._replace(records=[(one[0], 0, 0, 0) for one in it.records]) for it in parts[0]]
+    check_lines(elf, types.strings, parts[0], parts[1] or lines)
     for group in parts[2]:
         for index, (_, _, access_str_off, _) in enumerate(group.records):
             at = group.place + 8 + 16 * index
             rule("ExtensionString", at + 8, access_str_off < len(types.strings))
-    return parts
+    return [parts[0], lines, parts[2]]
 
 
 def read_part(elf: Elf, strings: bytes, at: int, end: int, words: int) -> list[Group]:
@@ -468,15 +457,25 @@ def read_part(elf: Elf, strings: bytes, at: int, end: int, words: int) -> list[G
     return groups
 
 
-def check_lines(strings: bytes, functions: list[Group], lines: list[Group]) -> None:
+def check_lines(elf: Elf, strings: bytes, functions: list[Group], lines: list[Group]) -> None:
+    groups: dict[bytes, tuple[set[int], list[int]]] = {}
     for one, other in zip(functions, lines):
-        names = {string_at(strings, it.sec_name_off) for it in (one, other)}
+        name, other_name = (string_at(strings, it.sec_name_off) for it in (one, other))
         starts, places = ([it[0] for it in group.records] for group in (one, other))
         is_sorted = all(it == sorted(set(it)) for it in (starts, places))
-        is_right = len(names) == 1 and is_sorted and set(starts) <= set(places)
+        is_right = name == other_name and is_sorted and set(starts) <= set(places)
         rule("ExtensionLines", one.place, is_right)
+        rule("ExtensionGroupTwice", one.place, name not in groups)
+        groups[name] = set(starts), places
     for it in functions[len(lines) :] + lines[len(functions) :]:
         raise Refused("ExtensionLines", it.place)
+    for number, (_, info, _, st_shndx, value, size) in elf.symbols.items():
+        section = elf.section(st_shndx)
+        if info & 15 == STT_FUNC and section.kind is Kind.DATA and section.name in groups:
+            of_functions, of_lines = groups[section.name]
+            has_line = bisect_left(of_lines, value) < bisect_left(of_lines, value + size)
+            at = elf.last[Kind.SYMBOLS].sh_offset + 24 * number + ST_VALUE
+            rule("FunctionLines", at, value in of_functions or not has_line)
 
 
 def main() -> None:

@@ -53,6 +53,14 @@ class Made:
         return ("clang", *(TOOLS[self.tool][:1] if self.tool else ())) if self.order else ()
 
 
+def vectors() -> list[Made]:
+    return [Made(object_vectors.FOLDER / row.file) for row in object_vectors.rows() if row.key]
+
+
+# Those whose .BTF.ext has a part without records, which cilium/ebpf refuses.
+WITHOUT_RECORDS = [it for it in vectors() if it.source.name.startswith(("changed.no_parts.", "changed.no_lines."))]
+
+
 def all_made() -> Iterator[Made]:
     for path, variants in SOURCES:
         typed = [it for it in variants if it != ()]
@@ -64,9 +72,7 @@ def all_made() -> Iterator[Made]:
     singles = [*((TOP / path, flags) for path, flags in OTHERS.items()), *((KINDS, (f"-D{it}",)) for it in kinds)]
     yield from (Made(path, order, ("-g", "-mcpu=v3", *flags)) for path, flags in singles for order in ORDERS)
     yield from map(Made, sorted([*INSTALLED.glob("*.elf"), *XDP_TOOLS.glob("*.o")]))
-    # cilium/ebpf refuses a part of .BTF.ext without records.
-    accepted = (row.file for row in object_vectors.rows() if row.key and "no_parts" not in row.file)
-    yield from (Made(object_vectors.FOLDER / file) for file in accepted)
+    yield from (it for it in vectors() if it not in WITHOUT_RECORDS)
 
 
 def named(source: str, order: str = "little") -> Made:

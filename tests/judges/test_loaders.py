@@ -5,7 +5,7 @@ from __future__ import annotations
 from tests import object_vectors
 from tests.judges.conftest import Canon, Tally, each
 from tests.judges.loaders import Loader, is_accepted
-from tests.judges.objects import all_made
+from tests.judges.objects import WITHOUT_RECORDS, all_made
 
 
 def test_loader_loads(loader: Loader) -> None:
@@ -22,7 +22,14 @@ def test_loader_reads_the_same(loader: Loader, made: bytes, canon: Canon, tally:
     assert one.decode() == other.decode()
 
 
-@each(all_made())
+@each(WITHOUT_RECORDS)
+def test_part_without_records(loader: Loader, made: bytes, canon: Canon) -> None:
+    """libbpf reads the same, and cilium/ebpf reads the canonical file alone."""
+    one, other = loader.view(made), loader.view(canon(made))
+    assert is_accepted(other) and (one == other or loader.name == "cilium" and not is_accepted(one))
+
+
+@each([*all_made(), *WITHOUT_RECORDS])
 def test_canonical_file_is_canonical(made: bytes, canon: Canon) -> None:
     canonical = canon(made)
     assert canon(canonical) == canonical

@@ -159,6 +159,16 @@ def loaded_debug(it: Edited) -> None:
     it.data = file.write()
 
 
+def no_lines(it: Edited) -> None:
+    """.BTF.ext without a part of lines, as gcc 14 writes it."""
+    it.put(it.content(b".BTF.ext") + 20, 4, 0)
+
+
+def other_function(it: Edited) -> None:
+    """A function in another one, which .BTF.ext doesn't have, and which has no lines."""
+    it.add_symbol(b"inner", GLOBAL | FUNCTION, it.section(b"fentry").number, value=8, size=16)
+
+
 @dataclass(frozen=True)
 class Accepted:
     """An accepted file: what is changed, and whether it has the canonical file of what it was made from."""
@@ -192,4 +202,6 @@ ACCEPTED = {
     "loaded_debug": Accepted(loaded_debug, is_same=True),
     "relocation_without_symbol": Accepted(lambda it: it.relocation(b".relraw_tp", "info", R_BPF_64_64)),
     "call_without_symbol": Accepted(lambda it: it.relocation(b".relraw_tp", "info", R_BPF_64_32)),
+    "no_lines": Accepted(no_lines, is_same=True),
+    "other_function": Accepted(other_function),
 }

@@ -59,9 +59,9 @@ class Edited:
     def symbol(self, number: int, field: str, value: int) -> int:
         return self.set(self.content(b".symtab") + sum(SYMBOL.values()) * number, SYMBOL, f"st_{field}", value)
 
-    def add_symbol(self, name: bytes, info: int, section: int, other: int = 0, value: int = 0) -> int:
+    def add_symbol(self, name: bytes, info: int, section: int, other: int = 0, value: int = 0, size: int = 0) -> int:
         """The offset of a symbol that is added to the others."""
-        row = struct.pack(self.elf.mark + canon.SYMBOL, self.add_string(name) if name else 0, info, other, section, value, 0)
+        row = struct.pack(self.elf.mark + canon.SYMBOL, self.add_string(name) if name else 0, info, other, section, value, size)
         rows, at = self.bytes_of(b".symtab") + row, len(self.data)
         self.row(b".symtab", "offset", at)
         self.row(b".symtab", "size", len(rows))
@@ -102,4 +102,6 @@ class Edited:
 
     def group(self, part: int) -> int:
         """Where the first group of functions, lines or CO-RE relocations is: parts 0, 1 and 2 of .BTF.ext."""
-        return int(canon.read_extension(self.elf, canon.read_types(self.elf))[part][0].place)
+        start = self.content(b".BTF.ext")
+        hdr_len, *places = struct.unpack_from(f"{self.elf.mark}7I", self.data, start + 4)
+        return int(start + hdr_len + places[2 * part] + 4)

@@ -10,7 +10,7 @@ from typing import Callable, NamedTuple, Optional
 
 from docs.canon import (
     MAX_FILE, MAX_SECTION_NAME, MAX_TYPES, SHF_COMPRESSED, SHN_ABS, SHN_UNDEF, SHT_NOBITS, SHT_PROGBITS, SHT_STRTAB, STB_LOCAL, STT_FILE,
-    STT_SECTION, SYMBOL,
+    STT_FUNC, STT_SECTION, SYMBOL,
 )  # fmt: skip
 from tests.objects.elf_file import OBJECT
 from tools.objects.edited import Edited
@@ -179,6 +179,39 @@ def lines_elsewhere(it: Edited) -> int:
     return it.group(0)
 
 
+def one_section(it: Edited) -> int:
+    """The functions and lines of the second section become those of the first."""
+    (first,) = struct.unpack_from(f"{it.elf.mark}I", it.data, it.group(0))
+    it.put(it.group(1) + 8 + 16, 4, first)
+    return it.put(it.group(0) + 8 + 8, 4, first)
+
+
+def later_function(it: Edited) -> int:
+    """The function of the first section, with its line, begins at the second instruction of the program."""
+    it.put(it.group(0) + 8, 4, 8)
+    it.put(it.group(1) + 8, 4, 8)
+    section = it.section(b"raw_tp").number
+    number = next(number for number, (_, info, _, shndx, *_) in enumerate(it.symbols) if (info & 15, shndx) == (STT_FUNC, section))
+    return it.symbol(number, "value", 0)
+
+
+def without_lines(change: Change) -> Change:
+    """The part of lines is empty."""
+
+    def both(it: Edited) -> int:
+        offset = change(it)
+        extension(20, 4, 0)(it)
+        return offset
+
+    return both
+
+
+def two_at_once(it: Edited) -> int:
+    """The second function of a section begins where the first does."""
+    it.put(it.group(0) + 8 + 8, 4, 0)
+    return it.group(0)
+
+
 def many_names(it: Edited) -> int:
     """100 symbols named by the ends of one string, which the canonical file would have one by one."""
     names = it.bytes_of(b".strtab")
@@ -304,4 +337,9 @@ REFUSED = {
     "SectionCut.empty": Refused("SectionCut", lambda it: it.row(b".text", "offset", len(it.data) + 1)),
     "ExtensionPart.empty": Refused("ExtensionPart", empty_part_behind, "pass"),
     "ExtensionPart.empty_odd": Refused("ExtensionPart", extension(24, 4, 2), "pass"),
+    "ExtensionLines.none": Refused("ExtensionLines", without_lines(two_at_once), "calls"),
+    "ExtensionGroupTwice": Refused("ExtensionGroupTwice", one_section),
+    "ExtensionGroupTwice.none": Refused("ExtensionGroupTwice", without_lines(one_section)),
+    "FunctionLines": Refused("FunctionLines", later_function),
+    "FunctionLines.none": Refused("FunctionLines", without_lines(later_function)),
 }
