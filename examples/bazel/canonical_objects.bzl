@@ -12,9 +12,8 @@ done
 """
 
 def _canonical_objects_impl(ctx):
-    if len({it.basename: None for it in ctx.files.srcs}) < len(ctx.files.srcs):
-        fail("two objects have the same name, and so would their canonical files")
-    outputs = [ctx.actions.declare_file(ctx.label.name + "/" + it.basename) for it in ctx.files.srcs]
+    # Two objects may have the same name. The path of one from another repository begins with "../".
+    outputs = [ctx.actions.declare_file(ctx.label.name + "/" + it.short_path.replace("../", "external/")) for it in ctx.files.srcs]
     words = ctx.actions.args()
     words.add(ctx.executable.program)
     for source, output in zip(ctx.files.srcs, outputs):
@@ -32,7 +31,7 @@ def _canonical_objects_impl(ctx):
 
 canonical_objects = rule(
     implementation = _canonical_objects_impl,
-    doc = "Writes the canonical file of each object, with its name, into a folder with the name of the target.",
+    doc = "Writes the canonical file of each object, with its path in the workspace, into a folder with the name of the target.",
     attrs = {
         "srcs": attr.label_list(allow_files = [".o"], mandatory = True, doc = "The object files."),
         "program": attr.label(

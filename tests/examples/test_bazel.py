@@ -1,5 +1,5 @@
 """Bazel finds what depends on canonical files in its cache again after a comment, and not after a change of the program, and each canonical
-file is that of the object with its name.
+file is that of the object with its path.
 """
 
 from __future__ import annotations
@@ -67,5 +67,6 @@ def test_cache(workspace: Workspace) -> None:
     for name in "allow.o", "deny.o":
         assert workspace.follow(f"bpfcanon-object canon bazel-bin/{name} | cmp - bazel-bin/canonical/{name}", HERE).returncode == 0
     workspace.edit("BUILD", 'srcs = ["allow.o", "deny.o"]', 'srcs = ["allow.o", "more/allow.o"]')
-    refused = workspace.follow("mkdir more && cp bazel-bin/deny.o more/allow.o && bazel build :canonical", HERE)
-    assert refused.returncode != 0 and "two objects have the same name" in refused.stderr
+    both = "mkdir more && cp bazel-bin/deny.o more/allow.o && bazel build :canonical && cd bazel-bin/canonical"
+    done = workspace.follow(f"{both} && bpfcanon-object same allow.o ../allow.o && bpfcanon-object same more/allow.o ../deny.o", HERE)
+    assert (done.returncode, done.stdout) == (0, "same\nsame\n"), done.stderr
