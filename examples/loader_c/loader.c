@@ -14,6 +14,11 @@
 #include <stdlib.h>
 #include <string.h>
 
+/* Objects of old releases have valid signatures: compile in the version of yours, and only objects with this or a later one are loaded. */
+#ifndef LEAST_VERSION
+#define LEAST_VERSION 0
+#endif
+
 struct bytes {
 	uint8_t *start; /* from malloc */
 	size_t len;
@@ -84,6 +89,17 @@ static int fail_in_libbpf(const char *step, int error)
 	return fail("%s: %s", step, reason);
 }
 
+/* The version of an object is its variable in .rodata.version, which is signed with the rest, or 0 if it has none. */
+static int check_version(const struct bpf_object *object)
+{
+	struct bpf_map *map = bpf_object__find_map_by_name(object, ".rodata.version");
+	size_t len = 0;
+	const uint32_t *value = map ? bpf_map__initial_value(map, &len) : NULL;
+	const uint32_t least = LEAST_VERSION, version = value && len == sizeof *value ? *value : 0;
+
+	return version < least ? fail("the object has version %u, and only %u or later is loaded", version, least) : 0;
+}
+
 /* The name of the object begins those of some maps in the kernel. It isn't taken from a path, which no one has signed. */
 static int load(const struct bytes *canonical)
 {
@@ -95,6 +111,10 @@ static int load(const struct bytes *canonical)
 
 	if (!object)
 		return fail_in_libbpf("open", errno);
+	if (check_version(object)) {
+		bpf_object__close(object);
+		return -1;
+	}
 	bpf_object__for_each_map(map, object)
 		printf("map %s\n", bpf_map__name(map));
 	bpf_object__for_each_program(program, object)
