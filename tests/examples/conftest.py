@@ -6,6 +6,7 @@ import os
 import re
 import shutil
 import subprocess
+import sys
 from dataclasses import dataclass
 from pathlib import Path
 
@@ -60,6 +61,8 @@ class Place:
             library = f"{prefix}/lib"
             self.settings |= {"PKG_CONFIG_PATH": f"{library}/pkgconfig", "LD_LIBRARY_PATH": library}
             self.settings |= {"BPFCANON_LIBRARY": f"{library}/libbpfcanon.so.0", "PYTHONPATH": f"{TOP}/bindings/python"}
+            (folder / "bin" / "bpfcanon-review").write_text(f'#!/bin/sh\nexec {sys.executable} -B -m bpfcanon.review "$@"\n')
+            (folder / "bin" / "bpfcanon-review").chmod(0o755)
 
     def run(self, *words: str | Path, within: str = ".") -> Done:
         folder = self.folder / within
