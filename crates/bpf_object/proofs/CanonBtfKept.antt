@@ -1,6 +1,6 @@
 -- The .BTF of a canonical file is accepted, and holds the types of its object.
 use Rattle.std.proofs.Common.{◌≡◌, ℕ, zero, suc, ◌<◌, ◌≤◌, ◌==◌, Bool, true, List, [], ◌∷◌, ◌++◌, Option, Some, None, length, get_or, map, refl, sym, ap, subst, ◌∙◌, lit<, append_assoc, length-append, arith}
-use Rattle.std.specs.{List.flat_map}
+use Rattle.std.specs.{List.AllZip, List.flat_map}
 use Rattle.std.proofs.lemmas.Bool.{leb-true}
 use Rattle.std.proofs.lemmas.List.{get_or-map, length-map}
 use Rattle.bpf_words.specs.{declared.Order.Order, declared.Order.TheVariants.Little, declared.Order.TheVariants.Big, Words.word32_at}
@@ -123,3 +123,7 @@ module _ (x : Object) (valid : ValidObject x) (small : IsSmall x) (t : ObjectTyp
       let here = types_back x valid small t is in
       keeps_types x.order (types_strings t) t.records records names_there strings_short free (types_of (canonical x)) (order_back x valid small) here.bytes_are
       (omega (arith, few, ap length here.bytes_are))
+
+  -- the frames of its .BTF encode the records
+  pub canonical_encode : AllZip (Encodes (strings_of (types_strings t))) t.records (canonical_words x.order t).frames
+  canonical_encode = words_encode x.order (types_strings t) t.records records names_there strings_short

@@ -2,7 +2,7 @@
 use Rattle.std.proofs.Common.{◌≡◌, ℕ, zero, suc, ◌+◌, ◌*◌, ◌<◌, ◌==◌, ◌&&◌, ◌||◌, Bool, true, false, not, List, [], ◌∷◌, ◌++◌, length, get_or, inl, inr, refl, sym, ap, subst, ◌∙◌, append_assoc, arith}
 use Rattle.std.specs.{Prelude.slice_index, List.All, List.flat_map}
 use Rattle.std.proofs.lemmas.Bool.{cases_Bool, ne_eqb, or_right, not-true}
-use Rattle.std.proofs.lemmas.List.{get_or_at, get_or-append-add, length-map, Elements.All-head, Elements.All-tail}
+use Rattle.std.proofs.lemmas.List.{get_or_at, get_or-append-add, Elements.All-head, Elements.All-tail}
 use Rattle.bpf_elf.specs.Kinds.{is_reserved}
 use Rattle.bpf_elf.specs.Names.{string_at}
 use Rattle.bpf_elf.specs.Rules.{AllHold, each}
@@ -10,18 +10,18 @@ use Rattle.bpf_elf.proofs.RuleLemmas.{both_hold, first_hold, rest_hold, each_hol
 use Rattle.btf_raw.specs.{KindNumbers.DATASEC, Heads.bit, Kinds.is_struct, Kinds.item_words, Kinds.has_item_names, Names.IsWithoutNul, Names.TextAt}
 use Rattle.btf_raw.specs.Frames.{IsFrame, kind, vlen, flag, name_word}
 use Rattle.btf_types.specs.Values.{TypeHead, KPtr, KStruct, KUnion, KEnum, KFuncProto, KDatasec, KEnum64, TypeItem, Member, EnumValue, Value64, Param, Entry, TypeRecord}
-use Rattle.btf_types.specs.{Names.IsName, Names.kept, Names.head_name, Names.item_name as name_of_item, Names.record_names, Reading.record_of, Valid.ItemOf, Valid.IsValidRecord, Valid.has_bit_fields, Valid.facts}
+use Rattle.btf_types.specs.{Names.IsName, Names.kept, Names.head_name, Names.item_name as name_of_item, Names.record_names, Reading.record_of, Valid.ItemOf, Valid.IsValidRecord, Valid.has_bit_fields}
 use Rattle.btf_types.specs.Encoding.{Encodes, kind_number, head_tail, record_vlen}
 use Rattle.btf_types.specs.checks.{Numbers.TypeFacts, FieldFaults.width}
-use Rattle.btf_types.specs.Sections.{SectionWords, records_in}
-use Rattle.btf_types.proofs.{Lists.zip_at, Members.Has, Encoded.numbers, Encoded.info_parts, Encoded.kind_below, Encoded.vlen_below, Encoded.flag_below, EncodedItems.nothing, EncodedItems.no_tail, EncodedItems.counted}
+use Rattle.btf_types.specs.Sections.{SectionWords}
+use Rattle.btf_types.proofs.{Members.Has, Encoded.numbers, Encoded.info_parts, Encoded.kind_below, Encoded.vlen_below, Encoded.flag_below, EncodedItems.nothing, EncodedItems.no_tail, EncodedItems.counted}
 use Rattle.btf_types.proofs.{CheckLemmas.RoleSteps.named_words, FaultlessLemmas.FaultlessRecords.bit_fields_there, StringLemmas.Texts.Has-kept, StringLemmas.Texts.text_at_offset}
 use Rattle.bpf_canon.specs.btf.CanonicalBtf.{canonical_flag, words_of_item, record_words}
 use Rattle.bpf_canon.proofs.BtfLemmas.CanonicalEncodes.{flag_encodes}
 use Rattle.bpf_object.specs.Canonical.{strings_of, offset_of}
 use Rattle.bpf_object.specs.Types.{TypesSection, form_rules, leads_to_name, is_reserved_section, is_flagged, head_rules, item_name, item_rules, named_items, record_rules, records_start, record_offset, rules_of}
 use Rattle.bpf_object.specs.{TypesFaults.KeepsTypes, Lines.any_of}
-use Rattle.bpf_object.proofs.{CanonBtf.held_encode, CanonNames.has_mapped, CanonRules.rule_holds, ReadBackKinds.all_hold, ReadBackStrings.string_read, RecordLemmas.HasItem, RecordLemmas.item_there, RecordLemmas.some_width}
+use Rattle.bpf_object.proofs.{CanonNames.has_mapped, CanonRules.rule_holds, ReadBackKinds.all_hold, ReadBackStrings.string_read, RecordLemmas.HasItem, RecordLemmas.item_there, RecordLemmas.some_width}
 
 -- ---- names
 
@@ -51,7 +51,7 @@ offset_leads xs (c ∷ cs) has none =
 abbrev pub is_reserved_record : TypeRecord → Bool
 is_reserved_record r = kind_number r.head == DATASEC && is_reserved (head_name r.head)
 
-reserved_is : (strings : List ℕ) (types : List TypeFacts) (r : TypeRecord) (f : List ℕ) → IsValidRecord types r → Encodes strings r f
+pub reserved_is : (strings : List ℕ) (types : List TypeFacts) (r : TypeRecord) (f : List ℕ) → IsValidRecord types r → Encodes strings r f
     → is_reserved_section strings f ≡ is_reserved_record r
 reserved_is strings types r f valid s =
     let n = numbers strings types r f valid s in
@@ -195,16 +195,11 @@ no_record = record { head = KPtr 0; items = [] }
 abbrev pub AreFree : List TypeRecord → Type 0
 AreFree v = (k : ℕ) → k < length v → is_reserved_record (get_or v k no_record) ≡ false
 
--- those of a file that keeps the rules
-pub held_free : (x : TypesSection) (s : SectionWords) → KeepsTypes x s → AreFree (records_in s)
-held_free x s keeps k lt =
-    let there : k < length s.frames = omega (arith, lt, length-map s.frames (record_of s.strings)) in
+-- nor a record of a file that keeps the rules
+pub frame_free : (x : TypesSection) (s : SectionWords) → KeepsTypes x s → (k : ℕ) → k < length s.frames → is_reserved_section s.strings (get_or s.frames k []) ≡ false
+frame_free x s keeps k there =
     let f = get_or s.frames k [] in
     let pos = record_offset (records_start x s) s k in
     let rules = each_holds (length s.frames) k (rules_of (records_start x s) s) there (rest_hold (form_rules x s) (each (length s.frames) (rules_of (records_start x s) s)) keeps.rules) in
     let head = first_hold (head_rules s.strings pos f) (each (named_items f) (item_rules s.strings pos f)) rules in
-    let other = (rule_holds _ _ _ (rule_holds _ _ _ head).1).0 in
-    let valid = keeps.sections.denotes.valid in
-    let encodes = zip_at (Encodes s.strings) (records_in s) s.frames k no_record [] (held_encode x.bytes s keeps.sections) lt in
-    sym (reserved_is s.strings (facts (records_in s)) (get_or (records_in s) k no_record) f (valid.each k no_record lt) encodes)
-    ∙ not-true (is_reserved_section s.strings f) other
+    not-true (is_reserved_section s.strings f) (rule_holds _ _ _ (rule_holds _ _ _ head).1).0

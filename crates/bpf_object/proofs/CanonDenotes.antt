@@ -9,7 +9,7 @@ use Rattle.bpf_object.specs.Objects.{ObjectTypes, Object}
 use Rattle.bpf_object.specs.Canonical.{strings_of, offset_of, types_strings, has_extension, btf_bytes, extension_bytes, canonical}
 use Rattle.bpf_object.specs.Denotes.{extension_at, extension_of, rules_of_extension, object_of, object_types, HoldsTypes, TypesAre, types_fit, result_limit, is_small, Denotes}
 use Rattle.bpf_object.specs.Extension.{Section}
-use Rattle.bpf_object.specs.Groups.{function_groups, relocation_groups}
+use Rattle.bpf_object.specs.Groups.{same_number, function_groups, relocation_groups}
 use Rattle.bpf_object.specs.{FunctionLines.functions_rules, Lines.extension_rules}
 use Rattle.bpf_object.proofs.ReadBackTests.{equal_test, most_test}
 use Rattle.bpf_object.proofs.CanonValid.{ValidObject, IsSmall}
@@ -17,7 +17,11 @@ use Rattle.bpf_object.proofs.CanonReads.{order_back, object_back}
 use Rattle.bpf_object.proofs.CanonSymbols.{canonical_is_elf}
 use Rattle.bpf_object.proofs.CanonAcceptedSymbols.{object_is_valid}
 use Rattle.bpf_object.proofs.CanonTypes.{types_back, no_types_back, extension_back, no_extension_back, no_extension_of_back}
-use Rattle.bpf_object.proofs.CanonBtfKept.{small_types, canonical_words, strings_short, canonical_records, canonical_types_kept}
+use Rattle.bpf_object.proofs.CanonBtfKept.{small_types, canonical_words, strings_short, canonical_records, canonical_types_kept, canonical_encode}
+use Rattle.bpf_object.proofs.OrderedAgain.{range_stays, ordered_is}
+use Rattle.bpf_object.specs.TypeOrder.{new_number, ordered}
+use Rattle.std.specs.List.{range_with_len}
+use Rattle.btf_types.specs.Sections.{records_in}
 use Rattle.bpf_object.proofs.CanonExtensionKept.{SaysExtension, written_section, extension_said}
 use Rattle.bpf_object.proofs.CanonFunctionSymbols.{KeepsFunctions, symbol_keeps, keeps_rules}
 use Rattle.bpf_object.proofs.CanonFew.{few_written}
@@ -48,8 +52,8 @@ small_again x small =
 -- what the .BTF.ext of a file says, with these strings
 record SaysOf (c strings : List ℕ) (t : ObjectTypes) : Type 0 where
   rules : AllHold (rules_of_extension c strings)
-  functions : function_groups (extension_of c strings) ≡ t.functions
-  relocations : relocation_groups (extension_of c strings) ≡ t.relocations
+  functions : function_groups same_number (extension_of c strings) ≡ t.functions
+  relocations : relocation_groups same_number (extension_of c strings) ≡ t.relocations
 
 same_section : (x y : Section) → x.order ≡ y.order → x.start ≡ y.start → x.bytes ≡ y.bytes → x.strings ≡ y.strings → x ≡ y
 same_section x y a b c d = λ k. record { order = a k; start = b k; bytes = c k; strings = d k }
@@ -107,8 +111,8 @@ module _ (x : Object) (valid : ValidObject x) (small : IsSmall x) (t : ObjectTyp
       let lengths = both_none (length t.functions) (length t.relocations) none in
       record {
         rules = subst (λ (y : Bool). AllHold (if y then [] else extension_rules (extension_of c strings) (functions_rules c (extension_of c strings)))) (sym at) refl;
-        functions = no_functions (extension_of c strings) empty ∙ no_elements t.functions lengths.0;
-        relocations = no_relocations (extension_of c strings) empty ∙ no_elements t.relocations lengths.1;
+        functions = no_functions same_number (extension_of c strings) empty ∙ no_elements t.functions lengths.0;
+        relocations = no_relocations same_number (extension_of c strings) empty ∙ no_elements t.relocations lengths.1;
       }
 
   canonical_extension : SaysOf (canonical x) strings t
@@ -123,14 +127,21 @@ module _ (x : Object) (valid : ValidObject x) (small : IsSmall x) (t : ObjectTyp
   canonical_holds =
       let here = types_back x valid small t is in
       let says = canonical_extension in
+      let w = canonical_words x.order t in
+      let ids = range_with_len 1 (length w.frames) in
+      let stays : same_number ≡ new_number ids = sym (λ i n. range_stays (length w.frames) n i) in
       record {
-        sections = canonical_words x.order t;
+        sections = w;
         there = here.some;
         types = canonical_types_kept x valid small t is few types.records types.free;
         extension = says.rules;
+        ids = ids;
+        sorted = types.in_order w (canonical_encode x valid small t is few types.records);
         whole =
-            same_types t (object_types (canonical_words x.order t) (extension_of (canonical x) strings)) (sym (canonical_records x valid small t is few types.records))
-            (sym says.functions) (sym says.relocations);
+            same_types t (object_types (new_number ids) (ordered ids w) (extension_of (canonical x) strings))
+            (sym (canonical_records x valid small t is few types.records) ∙ ap records_in (sym (ordered_is w)))
+            (sym says.functions ∙ ap (λ (new : ℕ → ℕ). function_groups new (extension_of (canonical x) strings)) stays)
+            (sym says.relocations ∙ ap (λ (new : ℕ → ℕ). relocation_groups new (extension_of (canonical x) strings)) stays);
       }
 
 no_types_are : (x : Object) → ValidObject x → IsSmall x → x.types ≡ None → TypesAre (canonical x) None

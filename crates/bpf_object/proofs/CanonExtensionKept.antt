@@ -15,7 +15,7 @@ use Rattle.bpf_object.specs.declared.extension.Part.{Part, TheVariants.Functions
 use Rattle.bpf_object.specs.Objects.{Function, CoreRelocation, Group, ObjectTypes}
 use Rattle.bpf_object.specs.Canonical.{strings_of, offset_of, function_strings, relocation_strings, extension_strings, types_strings, group_bytes, part_bytes, function_bytes, line_bytes, relocation_bytes, functions_part, lines_part, relocations_part, extension_bytes, has_extension}
 use Rattle.bpf_object.specs.Extension.{Section, part_len, groups, head_rules, part_rules}
-use Rattle.bpf_object.specs.Groups.{function_groups, relocation_groups}
+use Rattle.bpf_object.specs.Groups.{same_number, function_groups, relocation_groups}
 use Rattle.bpf_object.specs.Lines.{lines_part as part_with_lines, pairs_rules, accesses_rules, section_rules, extension_rules}
 use Rattle.bpf_object.proofs.{ReadBackTests.less_test, ReadBackTests.most_test}
 use Rattle.bpf_object.proofs.CanonNames.{has_left, has_right, has_mapped, name_reads, name_inside}
@@ -36,8 +36,8 @@ pub record IsValidExtension (t : ObjectTypes) : Type 0 where
 pub record SaysExtension (x : Section) (t : ObjectTypes) : Type 0 where
   pub rules : (symbols : List ObjectRule) → AllHold symbols → AllHold (extension_rules x symbols)
   pub lines : (name : List ℕ) (value size : ℕ) → is_kept_by t.functions name value size ≡ true → keeps_lines x name value size ≡ true
-  pub functions : function_groups x ≡ t.functions
-  pub relocations : relocation_groups x ≡ t.relocations
+  pub functions : function_groups same_number x ≡ t.functions
+  pub relocations : relocation_groups same_number x ≡ t.relocations
 
 -- ---- which strings .BTF has
 

@@ -15,7 +15,7 @@ use Rattle.bpf_object.specs.declared.extension.Part.{TheVariants.Functions, TheV
 use Rattle.bpf_object.specs.Objects.{Function, CoreRelocation, Group}
 use Rattle.bpf_object.specs.Canonical.{function_bytes, line_bytes, relocation_bytes}
 use Rattle.bpf_object.specs.Extension.{Section, word, group_count, record_size, record_offset}
-use Rattle.bpf_object.specs.Groups.{function_at, relocation_at, function_group, relocation_group}
+use Rattle.bpf_object.specs.Groups.{same_number, function_at, relocation_at, function_group, relocation_group}
 use Rattle.bpf_object.specs.Kept.{listed}
 use Rattle.bpf_object.specs.Lines.{name_of, insn_off, all_of, ascends, has_record, have_lines, is_among, is_pair, pairs_rules, access_rules, accesses_rules}
 use Rattle.bpf_object.proofs.{CanonLists.listed_is, CanonLists.number_all, ReadBackKinds.all_hold, ReadBackTests.equal_test, ReadBackTests.less_test, TestLemmas.any_found}
@@ -106,22 +106,22 @@ module _ (x : Section) (place : List ℕ → ℕ) where
   pub function_name : (gr : Group Function) (g : ℕ) → IsRead gr.section → AtFunctions gr g → name_of x g ≡ gr.section
   function_name gr g read at = ap (λ (off : ℕ). string_at x.strings off) at.name ∙ read
 
-  function_back : (gr : Group Function) (g : ℕ) → AreValidFunctions gr → IsRead gr.section → AtFunctions gr g → function_group x g ≡ gr
+  function_back : (gr : Group Function) (g : ℕ) → AreValidFunctions gr → IsRead gr.section → AtFunctions gr g → function_group same_number x g ≡ gr
   function_back gr g valid read at =
-      same_group (function_group x g) gr (function_name gr g read at)
+      same_group (function_group same_number x g) gr (function_name gr g read at)
       (all_back (function_at x g) (group_count x g) gr.records no_function at.count
       (λ k lt.
       same_function (function_at x g k) (get_or gr.records k no_function) (function_offset gr g valid at k lt) (function_type gr g valid at k lt)))
 
   pub functions_back : (gs : List (Group Function)) (places : List ℕ) → All AreValidFunctions gs → All (λ gr. IsRead gr.section) gs → AllZip AtFunctions gs places
-      → map (function_group x) places ≡ gs
+      → map (function_group same_number x) places ≡ gs
   functions_back [] [] valid read at = refl
   functions_back [] (g ∷ places) valid read at = absurd at
   functions_back (gr ∷ gs) [] valid read at = absurd at
   functions_back (gr ∷ gs) (g ∷ places) valid read at =
       let first = function_back gr g (All-head AreValidFunctions gr gs valid) (All-head (λ h. IsRead h.section) gr gs read) at.0 in
       let rest = functions_back gs places (All-tail AreValidFunctions gr gs valid) (All-tail (λ h. IsRead h.section) gr gs read) at.1 in
-      ap (λ (h : Group Function). h ∷ map (function_group x) places) first ∙ ap (λ (hs : List (Group Function)). gr ∷ hs) rest
+      ap (λ (h : Group Function). h ∷ map (function_group same_number x) places) first ∙ ap (λ (hs : List (Group Function)). gr ∷ hs) rest
 
   pair_kept : (gr : Group Function) (f l : ℕ) → AreValidFunctions gr → AtFunctions gr f → AtLines gr l → is_pair x Lines f l ≡ true
   pair_kept gr f l valid at line =
@@ -194,23 +194,23 @@ module _ (x : Section) (place : List ℕ → ℕ) where
         let inside = noted.inside k lt in
         core_there (get_or gr.records k no_core_relocation) (record_offset Relocations g k) (valid.each k lt) (omega (arith, short, inside)) (at.rows k lt)
 
-    relocation_back : (gr : Group CoreRelocation) (g : ℕ) → AreValidRelocations gr → IsRead gr.section → AreNoted gr → AtRelocations gr g → relocation_group x g ≡ gr
+    relocation_back : (gr : Group CoreRelocation) (g : ℕ) → AreValidRelocations gr → IsRead gr.section → AreNoted gr → AtRelocations gr g → relocation_group same_number x g ≡ gr
     relocation_back gr g valid read noted at =
-        same_group (relocation_group x g) gr (ap (λ (off : ℕ). string_at x.strings off) at.name ∙ read)
+        same_group (relocation_group same_number x g) gr (ap (λ (off : ℕ). string_at x.strings off) at.name ∙ read)
         (all_back (relocation_at x g) (group_count x g) gr.records no_core_relocation at.count
         (λ k lt.
         let here = core_at gr g valid noted at k lt in
         same_core (relocation_at x g k) (get_or gr.records k no_core_relocation) here.offset here.type (ap (λ (off : ℕ). string_at x.strings off) here.access ∙ noted.read k lt) here.kind))
 
     pub relocations_back : (gs : List (Group CoreRelocation)) (places : List ℕ) → All AreValidRelocations gs → All (λ gr. IsRead gr.section) gs → All AreNoted gs
-        → AllZip AtRelocations gs places → map (relocation_group x) places ≡ gs
+        → AllZip AtRelocations gs places → map (relocation_group same_number x) places ≡ gs
     relocations_back [] [] valid read noted at = refl
     relocations_back [] (g ∷ places) valid read noted at = absurd at
     relocations_back (gr ∷ gs) [] valid read noted at = absurd at
     relocations_back (gr ∷ gs) (g ∷ places) valid read noted at =
         let first = relocation_back gr g (All-head AreValidRelocations gr gs valid) (All-head (λ h. IsRead h.section) gr gs read) (All-head AreNoted gr gs noted) at.0 in
         let rest = relocations_back gs places (All-tail AreValidRelocations gr gs valid) (All-tail (λ h. IsRead h.section) gr gs read) (All-tail AreNoted gr gs noted) at.1 in
-        ap (λ (h : Group CoreRelocation). h ∷ map (relocation_group x) places) first ∙ ap (λ (hs : List (Group CoreRelocation)). gr ∷ hs) rest
+        ap (λ (h : Group CoreRelocation). h ∷ map (relocation_group same_number x) places) first ∙ ap (λ (hs : List (Group CoreRelocation)). gr ∷ hs) rest
 
     access_kept : (gr : Group CoreRelocation) (g : ℕ) → AreValidRelocations gr → AreNoted gr → AtRelocations gr g → (k : ℕ) → k < group_count x g → AllHold (access_rules x g k)
     access_kept gr g valid noted at k lt =

@@ -13,7 +13,7 @@ use Rattle.btf_raw.specs.Names.{IsWithoutNul}
 use Rattle.bpf_object.specs.declared.extension.Part.{Part, TheVariants.Functions, TheVariants.Lines, TheVariants.Relocations}
 use Rattle.bpf_object.specs.Objects.{Function, CoreRelocation, Group}
 use Rattle.bpf_object.specs.Extension.{Section, word, group_count, group_name, groups, next_group, part_end, head_rules, group_rules, groups_rules, form_rules, part_rules, record_offset}
-use Rattle.bpf_object.specs.Groups.{function_at, access_off, relocation_at, function_group, relocation_group, function_groups, relocation_groups}
+use Rattle.bpf_object.specs.Groups.{function_at, access_off, relocation_at, renewed_function, renewed_relocation, function_group, relocation_group, function_groups, relocation_groups}
 use Rattle.bpf_object.specs.{Faults.ObjectRule, Kept.listed}
 use Rattle.bpf_object.specs.Lines.{name_of, insn_off, all_of, ascends, lines_part, have_lines, is_among, is_pair, pairs_rules, section_rules}
 use Rattle.bpf_object.proofs.CanonRules.{rule_holds, string_without_nul}
@@ -82,7 +82,13 @@ ascends_is x p g fs count each =
 
 -- ---- what a file that keeps the rules has
 
-module _ (x : Section) (bytes : IsBytes x.bytes) where
+module _ (x : Section) (bytes : IsBytes x.bytes) (new : ℕ → ℕ) (low : (n : ℕ) → n < 2 ^ 32 → new n < 2 ^ 32) where
+  abbrev function : ℕ → ℕ → Function
+  function g k = renewed_function new (function_at x g k)
+
+  abbrev relocation : ℕ → ℕ → CoreRelocation
+  relocation g k = renewed_relocation new (relocation_at x g k)
+
   word_low : (i : ℕ) → word x i < 2 ^ 32
   word_low i = word32_at-below x.order x.bytes i bytes
 
@@ -111,61 +117,61 @@ module _ (x : Section) (bytes : IsBytes x.bytes) where
 
   -- ---- functions
 
-  valid_functions : (p : Part) (f l : ℕ) → AllHold (group_rules x Functions f) → is_pair x p f l ≡ true → AreValidFunctions (function_group x f)
+  valid_functions : (p : Part) (f l : ℕ) → AllHold (group_rules x Functions f) → is_pair x p f l ≡ true → AreValidFunctions (function_group new x f)
   valid_functions p f l rules pair =
-      let count = length-all (function_at x f) (group_count x f) in
-      let at : (k : ℕ) → k < length (function_group x f).records → get_or (function_group x f).records k no_function ≡ function_at x f k =
-      λ k lt. get-all (function_at x f) (group_count x f) k no_function (omega (arith, lt, count)) in
+      let count = length-all (function f) (group_count x f) in
+      let at : (k : ℕ) → k < length (function_group new x f).records → get_or (function_group new x f).records k no_function ≡ function f k =
+      λ k lt. get-all (function f) (group_count x f) k no_function (omega (arith, lt, count)) in
       let rest = and_parts (bytes_eq (name_of x f) (name_of x l)) (ascends x Functions f && (ascends x p l && have_lines x p f l)) pair in
       let ascend = (and_parts (ascends x Functions f) (ascends x p l && have_lines x p f l) rest.1).0 in
       record {
-        group = valid_group (function_at x f) f (group_facts Functions f rules);
+        group = valid_group (function f) f (group_facts Functions f rules);
         each = λ k lt.
             subst IsValidFunction (sym (at k lt))
-            (record { offset = word_low (record_offset Functions f k); type = word_low (record_offset Functions f k + 4) });
+            (record { offset = word_low (record_offset Functions f k); type = low (word x (record_offset Functions f k + 4)) (word_low (record_offset Functions f k + 4)) });
         ascend =
-            sym (ascends_is x Functions f (function_group x f).records (sym count) (λ k lt. ap (λ (h : Function). h.offset) (sym (at k lt)))) ∙ ascend;
+            sym (ascends_is x Functions f (function_group new x f).records (sym count) (λ k lt. ap (λ (h : Function). h.offset) (sym (at k lt)))) ∙ ascend;
       }
 
   all_functions : (p : Part) (earlier : List (List ℕ)) (fs ls : List ℕ) → AllHold (groups_rules x Functions fs) → AllHold (pairs_rules x p earlier fs ls)
-      → All AreValidFunctions (map (function_group x) fs)
+      → All AreValidFunctions (map (function_group new x) fs)
   all_functions p earlier [] ls rules pairs = All-nil AreValidFunctions
   all_functions p earlier (f ∷ fs) [] rules pairs = absurd cc
   all_functions p earlier (f ∷ fs) (l ∷ ls) rules pairs =
       let pair = rule_holds _ _ _ pairs in
-      All-cons AreValidFunctions (function_group x f) (map (function_group x) fs)
+      All-cons AreValidFunctions (function_group new x f) (map (function_group new x) fs)
       (valid_functions p f l (first_hold (group_rules x Functions f) (groups_rules x Functions fs) rules) pair.0)
       (all_functions p (earlier ++ name_of x f ∷ []) fs ls (rest_hold (group_rules x Functions f) (groups_rules x Functions fs) rules) (rule_holds _ _ _ pair.1).1)
 
-  all_apart : (p : Part) (earlier : List (List ℕ)) (fs ls : List ℕ) → AllHold (pairs_rules x p earlier fs ls) → are_apart earlier (map (function_group x) fs) ≡ true
+  all_apart : (p : Part) (earlier : List (List ℕ)) (fs ls : List ℕ) → AllHold (pairs_rules x p earlier fs ls) → are_apart earlier (map (function_group new x) fs) ≡ true
   all_apart p earlier [] ls pairs = refl
   all_apart p earlier (f ∷ fs) [] pairs = absurd cc
   all_apart p earlier (f ∷ fs) (l ∷ ls) pairs =
       let other = rule_holds _ _ _ (rule_holds _ _ _ pairs).1 in
-      and_from (not (is_among earlier (name_of x f))) (are_apart (earlier ++ name_of x f ∷ []) (map (function_group x) fs)) other.0
+      and_from (not (is_among earlier (name_of x f))) (are_apart (earlier ++ name_of x f ∷ []) (map (function_group new x) fs)) other.0
       (all_apart p (earlier ++ name_of x f ∷ []) fs ls other.1)
 
   -- ---- CO-RE relocations
 
-  valid_relocations : (g : ℕ) → AllHold (group_rules x Relocations g) → AreValidRelocations (relocation_group x g)
+  valid_relocations : (g : ℕ) → AllHold (group_rules x Relocations g) → AreValidRelocations (relocation_group new x g)
   valid_relocations g rules =
-      let count = length-all (relocation_at x g) (group_count x g) in
+      let count = length-all (relocation g) (group_count x g) in
       record {
-        group = valid_group (relocation_at x g) g (group_facts Relocations g rules);
+        group = valid_group (relocation g) g (group_facts Relocations g rules);
         each = λ k lt.
-            subst IsValidCore (sym (get-all (relocation_at x g) (group_count x g) k no_core_relocation (omega (arith, lt, count))))
+            subst IsValidCore (sym (get-all (relocation g) (group_count x g) k no_core_relocation (omega (arith, lt, count))))
             (record {
               offset = word_low (record_offset Relocations g k);
-              type = word_low (record_offset Relocations g k + 4);
+              type = low (word x (record_offset Relocations g k + 4)) (word_low (record_offset Relocations g k + 4));
               access = string_without_nul x.strings (access_off x g k);
               kind = word_low (record_offset Relocations g k + 12);
             });
       }
 
-  all_relocations : (gs : List ℕ) → AllHold (groups_rules x Relocations gs) → All AreValidRelocations (map (relocation_group x) gs)
+  all_relocations : (gs : List ℕ) → AllHold (groups_rules x Relocations gs) → All AreValidRelocations (map (relocation_group new x) gs)
   all_relocations [] rules = All-nil AreValidRelocations
   all_relocations (g ∷ gs) rules =
-      All-cons AreValidRelocations (relocation_group x g) (map (relocation_group x) gs)
+      All-cons AreValidRelocations (relocation_group new x g) (map (relocation_group new x) gs)
       (valid_relocations g (first_hold (group_rules x Relocations g) (groups_rules x Relocations gs) rules))
       (all_relocations gs (rest_hold (group_rules x Relocations g) (groups_rules x Relocations gs) rules))
 
@@ -190,13 +196,13 @@ module _ (x : Section) (bytes : IsBytes x.bytes) where
     pub held_pairs : AllHold (pairs_rules x (lines_part x) [] (groups x Functions) (groups x (lines_part x)))
     held_pairs = rest_hold (part_rules x Relocations) pair_rules after_lines
 
-    pub held_functions : All AreValidFunctions (function_groups x)
+    pub held_functions : All AreValidFunctions (function_groups new x)
     held_functions =
         all_functions (lines_part x) [] (groups x Functions) (groups x (lines_part x))
         (groups_of Functions (first_hold (part_rules x Functions) (part_rules x Lines ++ (part_rules x Relocations ++ pair_rules)) after_head)) held_pairs
 
-    pub held_apart : are_apart [] (function_groups x) ≡ true
+    pub held_apart : are_apart [] (function_groups new x) ≡ true
     held_apart = all_apart (lines_part x) [] (groups x Functions) (groups x (lines_part x)) held_pairs
 
-    pub held_relocations : All AreValidRelocations (relocation_groups x)
+    pub held_relocations : All AreValidRelocations (relocation_groups new x)
     held_relocations = all_relocations (groups x Relocations) (groups_of Relocations (first_hold (part_rules x Relocations) pair_rules after_lines))

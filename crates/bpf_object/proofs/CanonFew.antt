@@ -16,6 +16,7 @@ use Rattle.bpf_elf.proofs.RuleLemmas.{first_of_there}
 use Rattle.bpf_object.specs.Objects.{Function, CoreRelocation, Group, ObjectTypes, Object}
 use Rattle.bpf_object.specs.Canonical.{has_extension, types_names, written_sections}
 use Rattle.bpf_object.specs.Kept.{number_of}
+use Rattle.bpf_object.specs.TypeOrder.{new_number}
 use Rattle.bpf_object.specs.Denotes.{extension_at, extension_of, object_of, HoldsTypes, TypesAre, Denotes}
 use Rattle.bpf_object.specs.Groups.{relocation_groups}
 use Rattle.bpf_object.proofs.CanonLists.{number_less}
@@ -101,10 +102,11 @@ module _ (b : List ℕ) (elf : IsElf b) where
 no_extension : (b : List ℕ) (t : ObjectTypes) → HoldsTypes b t → (extension_at b == 0) ≡ true → has_extension t ≡ false
 no_extension b t held none =
     let x = extension_of b held.sections.strings in
+    let new = new_number held.ids in
     let empty : x.bytes ≡ [] = ap (λ (y : Bool). if y then [] else content b (extension_at b)) none in
     ap (λ (u : ObjectTypes). has_extension u) held.whole
-    ∙ ap (λ (fs : List (Group Function)). not (length fs == 0 && length (relocation_groups x) == 0)) (no_functions x empty)
-    ∙ ap (λ (rs : List (Group CoreRelocation)). not (length rs == 0)) (no_relocations x empty)
+    ∙ ap (λ (fs : List (Group Function)). not (length fs == 0 && length (relocation_groups new x) == 0)) (no_functions new x empty)
+    ∙ ap (λ (rs : List (Group CoreRelocation)). not (length rs == 0)) (no_relocations new x empty)
 
 extension_there : (b : List ℕ) (t : ObjectTypes) → HoldsTypes b t → has_extension t ≡ true → 0 < extension_at b
 extension_there b t held has = elim (cases_lt 0 (extension_at b)) [

@@ -10,7 +10,7 @@ use Rattle.bpf_object.specs.declared.{extension.Part.Part}
 use Rattle.bpf_object.specs.declared.extension.Part.TheVariants.{Functions, Lines}
 use Rattle.bpf_object.specs.Extension.{Section, group_count}
 use Rattle.bpf_object.specs.FunctionLines.{pairs_of, pair_in, has_record_within, is_recorded}
-use Rattle.bpf_object.specs.Groups.{function_at, function_group}
+use Rattle.bpf_object.specs.Groups.{function_at, renewed_function, function_group}
 use Rattle.bpf_object.specs.Lines.{name_of, insn_off, any_of, ascends, has_record, have_lines, is_pair, pairs_rules}
 use Rattle.bpf_object.specs.Objects.{Function, Group}
 use Rattle.bpf_object.proofs.CanonExtensionRecords.{AtFunctions, AtLines, IsRead, function_offset, line_offset, function_name}
@@ -57,26 +57,26 @@ either_kept false a b others rest P Q first next h = next h
 
 -- ---- the functions of a section that keeps its rules
 
-module _ (x : Section) (p : Part) where
-  offset_at : (f k : ℕ) → k < group_count x f → (get_or (function_group x f).records k no_function).offset ≡ insn_off x Functions f k
-  offset_at f k lt = ap (λ (h : Function). h.offset) (get-all (function_at x f) (group_count x f) k no_function lt)
+module _ (x : Section) (p : Part) (new : ℕ → ℕ) where
+  offset_at : (f k : ℕ) → k < group_count x f → (get_or (function_group new x f).records k no_function).offset ≡ insn_off x Functions f k
+  offset_at f k lt = ap (λ (h : Function). h.offset) (get-all (λ k. renewed_function new (function_at x f k)) (group_count x f) k no_function lt)
 
-  function_there : (f off : ℕ) → has_record x Functions f off ≡ true → has_function (function_group x f).records off ≡ true
+  function_there : (f off : ℕ) → has_record x Functions f off ≡ true → has_function (function_group new x f).records off ≡ true
   function_there f off h =
       let it = any_index (group_count x f) (λ k. insn_off x Functions f k == off) h in
-      any_found (length (function_group x f).records) it.0 (λ k. (get_or (function_group x f).records k no_function).offset == off)
-      (omega (arith, it.1.0, length-all (function_at x f) (group_count x f))) (ap (λ (n : ℕ). n == off) (offset_at f it.0 it.1.0) ∙ it.1.1)
+      any_found (length (function_group new x f).records) it.0 (λ k. (get_or (function_group new x f).records k no_function).offset == off)
+      (omega (arith, it.1.0, length-all (λ k. renewed_function new (function_at x f k)) (group_count x f))) (ap (λ (n : ℕ). n == off) (offset_at f it.0 it.1.0) ∙ it.1.1)
 
   -- if no line is there, no function is
-  none_within : (f l from to : ℕ) → have_lines x p f l ≡ true → has_record_within x p l from to ≡ false → has_function_within (function_group x f).records from to ≡ false
+  none_within : (f l from to : ℕ) → have_lines x p f l ≡ true → has_record_within x p l from to ≡ false → has_function_within (function_group new x f).records from to ≡ false
   none_within f l from to lines none =
-      let fs = (function_group x f).records in
+      let fs = (function_group new x f).records in
       let test = λ (k : ℕ). nat_le from (get_or fs k no_function).offset && nat_lt (get_or fs k no_function).offset to in
       any_none (length fs) test
       (λ k lt. elim (cases_Bool (test k)) [
         | inr other ↦ other
         | inl within ↦
-            let there : k < group_count x f = omega (arith, lt, length-all (function_at x f) (group_count x f)) in
+            let there : k < group_count x f = omega (arith, lt, length-all (λ k. renewed_function new (function_at x f k)) (group_count x f)) in
             let line = any_index (group_count x l) (λ j. insn_off x p l j == insn_off x Functions f k)
             (all_holds (group_count x f) k (λ i. has_record x p l (insn_off x Functions f i)) there lines) in
             let same : (get_or fs k no_function).offset ≡ insn_off x p l line.0 = offset_at f k there ∙ sym (eqb-true _ _ line.1.1) in
@@ -87,9 +87,9 @@ module _ (x : Section) (p : Part) where
       ])
 
   pair_keeps : (f l value size : ℕ) → is_pair x p f l ≡ true → is_recorded x p (record { functions = f; lines = l }) value size ≡ true
-      → is_kept_in (function_group x f).records value size ≡ true
+      → is_kept_in (function_group new x f).records value size ≡ true
   pair_keeps f l value size pair h =
-      let fs = (function_group x f).records in
+      let fs = (function_group new x f).records in
       let within = has_record_within x p l value (value + size) in
       let rest = and_parts (bytes_eq (name_of x f) (name_of x l)) (ascends x Functions f && (ascends x p l && have_lines x p f l)) pair in
       let lines = (and_parts (ascends x p l) (have_lines x p f l) (and_parts (ascends x Functions f) (ascends x p l && have_lines x p f l) rest.1).1).1 in
@@ -101,13 +101,13 @@ module _ (x : Section) (p : Part) where
       ]
 
   pub pairs_keep : (earlier : List (List ℕ)) (fs ls name : List ℕ) (value size : ℕ) → AllHold (pairs_rules x p earlier fs ls)
-      → elim (pair_in x (pairs_of fs ls) name) [ None ↦ true | Some pair ↦ is_recorded x p pair value size ] ≡ true → is_kept_by (map (function_group x) fs) name value size ≡ true
+      → elim (pair_in x (pairs_of fs ls) name) [ None ↦ true | Some pair ↦ is_recorded x p pair value size ] ≡ true → is_kept_by (map (function_group new x) fs) name value size ≡ true
   pairs_keep earlier [] ls name value size rules h = refl
   pairs_keep earlier (f ∷ fs) [] name value size rules h = absurd cc
   pairs_keep earlier (f ∷ fs) (l ∷ ls) name value size rules h =
       let pair = rule_holds _ _ _ rules in
-      either_kept (bytes_eq (name_of x f) name) (record { functions = f; lines = l }) (function_group x f) (pair_in x (pairs_of fs ls) name)
-      (find (λ gr. bytes_eq gr.section name) (map (function_group x) fs)) (λ q. is_recorded x p q value size) (λ gr. is_kept_in gr.records value size)
+      either_kept (bytes_eq (name_of x f) name) (record { functions = f; lines = l }) (function_group new x f) (pair_in x (pairs_of fs ls) name)
+      (find (λ gr. bytes_eq gr.section name) (map (function_group new x) fs)) (λ q. is_recorded x p q value size) (λ gr. is_kept_in gr.records value size)
       (pair_keeps f l value size pair.0) (pairs_keep (earlier ++ name_of x f ∷ []) fs ls name value size (rule_holds _ _ _ pair.1).1) h
 
 -- ---- the functions of a canonical file

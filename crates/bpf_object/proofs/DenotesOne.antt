@@ -1,14 +1,16 @@
 -- A file denotes at most one object.
-use Rattle.std.proofs.Common.{◌≡◌, ℕ, ◌++◌, List, [], Option, Some, None, refl, sym, ap, ◌∙◌, arith}
+use Rattle.std.proofs.Common.{◌≡◌, ℕ, ◌++◌, List, [], Option, Some, None, refl, sym, ap, subst, ◌∙◌, arith}
 use Rattle.bpf_words.specs.declared.Order.{Order}
 use Rattle.btf_raw.specs.Frames.{section_of}
 use Rattle.btf_raw.proofs.{Cuts.cut_unique, Frames.frames_cancel}
 use Rattle.btf_types.specs.{Denotes.HoldsSections, Sections.SectionWords}
 use Rattle.btf_types.proofs.Denoting.{nothing_is_no_frame}
 use Rattle.bpf_object.specs.Objects.{ObjectTypes, Object}
+use Rattle.bpf_object.specs.TypeOrder.{new_number, IsOrder, ordered}
+use Rattle.bpf_object.proofs.OrderLayers.{one_order}
 use Rattle.bpf_object.specs.Denotes.{types_of, extension_of, object_types, TypesAre, object_of, Denotes}
 
-same_words : (s t : SectionWords) → s.order ≡ t.order → s.strings ≡ t.strings → s.frames ≡ t.frames → s ≡ t
+pub same_words : (s t : SectionWords) → s.order ≡ t.order → s.strings ≡ t.strings → s.frames ≡ t.frames → s ≡ t
 same_words s t a b c = λ k. record { order = a k; strings = b k; frames = c k }
 
 -- a file can be cut into frames in one way
@@ -26,7 +28,11 @@ types_one b None (Some t) p q = let none = p.0 in let some = q.there in absurd (
 types_one b (Some t) None p q = let some = p.there in let none = q.0 in absurd (omega (arith, none, some))
 types_one b (Some t) (Some u) p q =
     let same = words_one (types_of b).bytes p.sections q.sections p.types.sections q.types.sections in
-    ap Some (p.whole ∙ ap (λ (s : SectionWords). object_types s (extension_of b s.strings)) same ∙ sym q.whole)
+    let ids = one_order q.sections p.ids q.ids (subst (λ (s : SectionWords). IsOrder s p.ids) same p.sorted) q.sorted in
+    ap Some
+    (p.whole ∙ ap (λ (s : SectionWords). object_types (new_number p.ids) (ordered p.ids s) (extension_of b s.strings)) same
+    ∙ ap (λ (o : List ℕ). object_types (new_number o) (ordered o q.sections) (extension_of b q.sections.strings)) ids
+    ∙ sym q.whole)
 
 pub denotes_one : (b : List ℕ) (x y : Object) → Denotes b x → Denotes b y → x ≡ y
 denotes_one b x y p q = p.whole ∙ ap (object_of b) (types_one b x.types y.types p.types q.types) ∙ sym q.whole

@@ -60,16 +60,16 @@ module _ (s : SectionWords) (x : Source) (names : NamesByOffset) (same : x.strin
 
 -- ---- what fits
 
-module _ (s : SectionWords) (x : Section) (same : s.strings ≡ x.strings) (table : IsTable s) (names : NamesByOffset) (are : names ≡ both_names s x) where
+module _ (s : SectionWords) (x : Section) (new : ℕ → ℕ) (same : s.strings ≡ x.strings) (table : IsTable s) (names : NamesByOffset) (are : names ≡ both_names s x) where
   abbrev t : ObjectTypes
-  t = object_types s x
+  t = object_types new s x
 
   abbrev extension : List ℕ
   extension = extension_bytes x.order (offset_of (types_strings t)) t
 
   -- .BTF
   same_btf : written_btf x.order s names ≡ btf_bytes x.order t
-  same_btf = ap (written_btf x.order s) are ∙ btf_is s x same table x.order
+  same_btf = ap (written_btf x.order s) are ∙ btf_is s x new same table x.order
 
   pub long_btf : (limit : ℕ) → limit < length (written_btf x.order s names) → limit < length (btf_bytes x.order t)
   long_btf limit lt = subst (λ (b : List ℕ). limit < length b) same_btf lt
@@ -87,14 +87,14 @@ module _ (s : SectionWords) (x : Section) (same : s.strings ≡ x.strings) (tabl
   -- .BTF.ext of these groups
   module _ (fs rs : List ℕ) (functions : fs ≡ groups x Functions) (relocations : rs ≡ groups x Relocations) where
     has_is : has_extension t ≡ not (length fs == 0 && length rs == 0)
-    has_is = rw (functions, relocations, length-map (groups x Functions) (function_group x), length-map (groups x Relocations) (relocation_group x)) refl
+    has_is = rw (functions, relocations, length-map (groups x Functions) (function_group new x), length-map (groups x Relocations) (relocation_group new x)) refl
 
-    same_extension : written_extension x (text_offset names) fs rs ≡ extension
+    same_extension : written_extension x new (text_offset names) fs rs ≡ extension
     same_extension =
-        rw (functions, relocations, are) (extension_is s x (text_offset (both_names s x)))
-        ∙ ap (λ (p : List ℕ → ℕ). extension_bytes x.order p t) (placed_is s x same table)
+        rw (functions, relocations, are) (extension_is s x new (text_offset (both_names s x)))
+        ∙ ap (λ (p : List ℕ → ℕ). extension_bytes x.order p t) (placed_is s x new same table)
 
-    pub long_extension : (limit : ℕ) → not (length fs == 0 && length rs == 0) ≡ true → limit < length (written_extension x (text_offset names) fs rs)
+    pub long_extension : (limit : ℕ) → not (length fs == 0 && length rs == 0) ≡ true → limit < length (written_extension x new (text_offset names) fs rs)
         → AreTooLong limit x.order t
     long_extension limit some lt = inr (has_is ∙ some, subst (λ (b : List ℕ). limit < length b) same_extension lt)
 
@@ -105,7 +105,7 @@ module _ (s : SectionWords) (x : Section) (same : s.strings ≡ x.strings) (tabl
         record { fit = fits_btf le; types = is ∙ same_btf; extension = rw has refl }
 
     pub with_extension : {A : Type 0} (types bytes : Vec ℕ A) → not (length fs == 0 && length rs == 0) ≡ true → length (written_btf x.order s names) ≤ 15728640
-        → types.items ≡ written_btf x.order s names → bytes.items ≡ written_extension x (text_offset names) fs rs
+        → types.items ≡ written_btf x.order s names → bytes.items ≡ written_extension x new (text_offset names) fs rs
         → AreWritten x.order t (record { types = types; extension = Some bytes })
     with_extension types bytes some le is whole =
         let has : has_extension t ≡ true = has_is ∙ some in

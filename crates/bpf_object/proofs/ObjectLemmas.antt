@@ -2,7 +2,7 @@
 use Rattle.std.proofs.Common.{◌≡◌, ℕ, zero, suc, ◌<◌, ◌≤◌, ◌&&◌, min, Bool, true, false, lit<, Result, Ok, Err, Option, Some, None, List, [], ◌∷◌, ◌++◌, length, take, drop, inl, inr, refl, sym, ◌∙◌, ap, subst, arith}
 use Rattle.std.proofs.lemmas.Bool.{cases_lt, Decides.nat_tests}
 use Rattle.std.specs.Prelude.{MatchResult, ◌==◌, if◌then◌else◌}
-use Rattle.bpf_words.specs.{Words.IsBytes}
+use Rattle.bpf_words.specs.{Words.IsBytes, declared.Order.Order}
 use Rattle.bpf_elf.specs.{ElfRules.IsElf, Rules.Broken, Rules.broken, Rules.first_broken, Rules.AllHold}
 use Rattle.bpf_elf.specs.Numbers.{order_of, offset}
 use Rattle.bpf_elf.specs.Sections.{file_size}
@@ -19,6 +19,8 @@ use Rattle.bpf_object.specs.{Extension.Section, Extension.groups, Faults.IsFirst
 use Rattle.bpf_object.specs.Lines.{accesses_rules, section_rules, extension_rules}
 use Rattle.bpf_object.specs.ObjectFaults.{IsFault, of_elf, without_types, of_types, of_extension, of_result, IsWithoutTypesFault, IsFaultOfTypes, IsFaultOfExtension, IsFaultOfResult, IsTooLarge, Fails, FailsToFit}
 use Rattle.bpf_object.specs.Objects.{ObjectTypes, Object}
+use Rattle.bpf_object.specs.TypeOrder.{new_number, IsOrder, ordered}
+use Rattle.bpf_object.specs.private.{TypeSteps.numbered, OrderedTypes.Keeps, OrderedTypes.HoldsOrdered}
 use Rattle.bpf_object.specs.declared.source.Source.{Source}
 use Rattle.bpf_object.specs.{Sources.section, Sources.HasParts, private.WrittenTypes.IsRead, private.WrittenTypes.AreTooLong}
 use Rattle.bpf_object.specs.Types.{TypesSection}
@@ -177,15 +179,20 @@ pub types_fail : (b : List ℕ) (e : ObjectError) → IsElf b → 0 < types_at b
 types_fail b (errors.Fault f) elf there first = of_types (record { elf = elf; there = there; first = first })
 types_fail b errors.Memory elf there first = first
 
--- .BTF and .BTF.ext keep all rules
-pub record Keeps (b : List ℕ) (s : SectionWords) : Type 0 where
-  pub elf : IsElf b
-  pub there : 0 < types_at b
-  pub types : KeepsTypes (types_of b) s
-  pub extension : AllHold (rules_of_extension b s.strings)
+-- the types of a file, with its records in their order
+abbrev pub typed : List ℕ → SectionWords → Section → ObjectTypes
+typed ids s x = object_types (new_number ids) (ordered ids s) x
 
-held : (b : List ℕ) (s : SectionWords) → Keeps b s → HoldsTypes b (object_types s (extension_of b s.strings))
-held b s k = record { sections = s; there = k.there; types = k.types; extension = k.extension; whole = refl }
+held : (b : List ℕ) (s : SectionWords) (ids : List ℕ) → Keeps b s → IsOrder s ids → HoldsTypes b (typed ids s (extension_of b s.strings))
+held b s ids k sorted = record {
+  sections = s;
+  there = k.there;
+  types = k.types;
+  extension = k.extension;
+  ids = ids;
+  sorted = sorted;
+  whole = refl;
+}
 
 -- .BTF or .BTF.ext is too long, and so is the file
 long_types : (b : List ℕ) (t : ObjectTypes) → AreTooLong (result_limit (length b)) (order_of b) t → is_small (length b) (object_of b (Some t)) ≡ false
@@ -201,24 +208,43 @@ long_types b t (inr over) =
     no_fit (btf_fits (order_of b) t) (fits b (Some t))
     (over_test (length (canonical (object_of b (Some t)))) (result_limit (length b)) (extension_too_long b t (result_limit (length b)) over.0 over.1))
 
-pub typed_large : (b : List ℕ) (s : SectionWords) (x : Section) (f : ObjectFault) (limit : ℕ) → Keeps b s → x ≡ extension_of b s.strings → limit ≡ result_limit (length b)
-    → AreTooLong limit x.order (object_types s x) → IsTooLarge f → IsFault b f
-typed_large b s x f limit k own most over is =
-    let t = object_types s (extension_of b s.strings) in
-    let here = subst (λ (x : Section). AreTooLong limit x.order (object_types s x)) own over in
-    let long = subst (λ (n : ℕ). AreTooLong n (order_of b) t) most here in
-    of_result (record { held = Some t; elf = k.elf; types = held b s k; large = long_types b t long; result = is })
-
 -- the contents are those of these types
-abbrev pub ContentsAre : SectionWords → Section → Option (List ℕ) → Option (List ℕ) → Type 0
-ContentsAre s x types extension =
-    (btf_fits x.order (object_types s x) ≡ true)
-    × ((types ≡ btf_content x.order (Some (object_types s x))) × (extension ≡ extension_content x.order (Some (object_types s x))))
+abbrev pub ContentsAre : Order → ObjectTypes → Option (List ℕ) → Option (List ℕ) → Type 0
+ContentsAre o t types extension = (btf_fits o t ≡ true) × ((types ≡ btf_content o (Some t)) × (extension ≡ extension_content o (Some t)))
 
-pub typed_file : {T : Type 0} (items : T → List ℕ) (b : List ℕ) (s : SectionWords) (x : Section) (types extension : Option (List ℕ)) (r : Result T ObjectError) → Keeps b s
-    → x ≡ extension_of b s.strings → ContentsAre s x types extension → ((t : Option ObjectTypes) → AreContents (order_of b) t types extension → FitsFile items b t r)
-    → MatchResult r (λ out. IsCanonicalFile b (items out)) (Fails b)
-typed_file items b s x types extension r k own contents made =
-    let t = object_types s (extension_of b s.strings) in
-    let at = subst (λ (x : Section). ContentsAre s x types extension) own contents in
-    with_contents items b (Some t) r k.elf (held b s k) at.0 (made (Some t) (record { types_are = at.1.0; extension_is = at.1.1 }))
+-- records with the new numbers of a list
+same_types : (b : List ℕ) (w : SectionWords) (numbers : List ℕ) (x : Section) (h : HoldsOrdered b w numbers) → object_types (numbered numbers) w x ≡ typed h.ids h.source x
+same_types b w numbers x h =
+    ap (λ (v : SectionWords). object_types (numbered numbers) v x) h.is
+    ∙ (λ i. object_types (λ id. h.order.each id i) (ordered h.ids h.source) x)
+
+module _ (b : List ℕ) (w : SectionWords) (numbers : List ℕ) (x : Section) (h : HoldsOrdered b w numbers) (own : x ≡ extension_of b w.strings) where
+  abbrev t : ObjectTypes
+  t = typed h.ids h.source (extension_of b h.source.strings)
+
+  holds : HoldsTypes b t
+  holds = held b h.source h.ids h.keeps h.order.order
+
+  own_section : x ≡ extension_of b h.source.strings
+  own_section = own ∙ ap (λ (v : SectionWords). extension_of b v.strings) h.is
+
+  types_is : object_types (numbered numbers) w x ≡ t
+  types_is = same_types b w numbers x h ∙ ap (typed h.ids h.source) own_section
+
+  order_is : x.order ≡ order_of b
+  order_is = ap (λ (y : Section). y.order) own_section
+
+  pub typed_large : (f : ObjectFault) (limit : ℕ) → limit ≡ result_limit (length b) → AreTooLong limit x.order (object_types (numbered numbers) w x) → IsTooLarge f → IsFault b f
+  typed_large f limit most over is =
+      let here = subst (λ (o : Order). AreTooLong limit o (object_types (numbered numbers) w x)) order_is over in
+      let mine = subst (λ (u : ObjectTypes). AreTooLong limit (order_of b) u) types_is here in
+      let long = subst (λ (n : ℕ). AreTooLong n (order_of b) t) most mine in
+      of_result (record { held = Some t; elf = h.keeps.elf; types = holds; large = long_types b t long; result = is })
+
+  pub typed_file : {T : Type 0} (items : T → List ℕ) (types extension : Option (List ℕ)) (r : Result T ObjectError)
+      → ContentsAre x.order (object_types (numbered numbers) w x) types extension → ((t : Option ObjectTypes) → AreContents (order_of b) t types extension → FitsFile items b t r)
+      → MatchResult r (λ out. IsCanonicalFile b (items out)) (Fails b)
+  typed_file items types extension r contents made =
+      let here = subst (λ (o : Order). ContentsAre o (object_types (numbered numbers) w x) types extension) order_is contents in
+      let at = subst (λ (u : ObjectTypes). ContentsAre (order_of b) u types extension) types_is here in
+      with_contents items b (Some t) r h.keeps.elf holds at.0 (made (Some t) (record { types_are = at.1.0; extension_is = at.1.1 }))

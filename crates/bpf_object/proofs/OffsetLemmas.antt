@@ -13,7 +13,7 @@ use Rattle.bpf_object.specs.declared.extension.Part.TheVariants.{Functions, Relo
 use Rattle.bpf_object.specs.Canonical.{strings_of, offset_of, function_strings, relocation_strings, extension_strings, types_strings, types_bytes, btf_of, btf_bytes}
 use Rattle.bpf_object.specs.Denotes.{object_types}
 use Rattle.bpf_object.specs.Extension.{Section, group_count, group_name, groups}
-use Rattle.bpf_object.specs.Groups.{access_off, relocation_at, function_group, relocation_group, function_groups}
+use Rattle.bpf_object.specs.Groups.{access_off, relocation_at, renewed_relocation, function_group, relocation_group, function_groups}
 use Rattle.bpf_object.specs.Kept.{listed}
 use Rattle.bpf_object.specs.Lines.{name_of}
 use Rattle.bpf_object.specs.private.NotedStrings.{text_offset}
@@ -48,7 +48,7 @@ listed_texts text off value access (suc n) same =
     map-append text (listed all off n) (off n ∷ []) ∙ rw (listed_texts text off value access n same, same n) refl
     ∙ sym (map-append access (listed all value n) (value n ∷ []))
 
-module _ (x : Section) where
+module _ (x : Section) (new : ℕ → ℕ) where
   text : ℕ → List ℕ
   text = text_from x.strings
 
@@ -56,34 +56,34 @@ module _ (x : Section) where
   unfolding text
   read off = sym (string_is_text x.strings off)
 
-  function_texts : (gs : List ℕ) → map text (groups_offsets x Functions gs) ≡ flat_map function_strings (map (function_group x) gs)
+  function_texts : (gs : List ℕ) → map text (groups_offsets x Functions gs) ≡ flat_map function_strings (map (function_group new x) gs)
   function_texts [] = refl
   function_texts (g ∷ gs) = rw (read (group_name x g)) (ap (λ (t : List (List ℕ)). name_of x g ∷ t) (function_texts gs))
 
-  group_texts : (g : ℕ) → map text (group_offsets x Relocations g) ≡ relocation_strings (relocation_group x g)
+  group_texts : (g : ℕ) → map text (group_offsets x Relocations g) ≡ relocation_strings (relocation_group new x g)
   group_texts g =
-      let accesses = listed_texts text (access_off x g) (relocation_at x g) (λ r. r.access) (group_count x g) (λ k. read (access_off x g k)) in
+      let accesses = listed_texts text (access_off x g) (λ k. renewed_relocation new (relocation_at x g k)) (λ r. r.access) (group_count x g) (λ k. read (access_off x g k)) in
       rw (read (group_name x g)) (ap (λ (t : List (List ℕ)). name_of x g ∷ t) accesses)
 
-  relocation_texts : (gs : List ℕ) → map text (groups_offsets x Relocations gs) ≡ flat_map relocation_strings (map (relocation_group x) gs)
+  relocation_texts : (gs : List ℕ) → map text (groups_offsets x Relocations gs) ≡ flat_map relocation_strings (map (relocation_group new x) gs)
   relocation_texts [] = refl
   relocation_texts (g ∷ gs) =
       map-append text (group_offsets x Relocations g) (groups_offsets x Relocations gs)
       ∙ ap (λ (t : List (List ℕ)). t ++ map text (groups_offsets x Relocations gs)) (group_texts g)
-      ∙ ap (λ (t : List (List ℕ)). relocation_strings (relocation_group x g) ++ t) (relocation_texts gs)
+      ∙ ap (λ (t : List (List ℕ)). relocation_strings (relocation_group new x g) ++ t) (relocation_texts gs)
 
 -- ---- all strings
 
-module _ (s : SectionWords) (x : Section) (same : s.strings ≡ x.strings) (table : IsTable s) where
+module _ (s : SectionWords) (x : Section) (new : ℕ → ℕ) (same : s.strings ≡ x.strings) (table : IsTable s) where
   extension_texts : map (text_from x.strings) (groups_offsets x Functions (groups x Functions) ++ groups_offsets x Relocations (groups x Relocations))
-      ≡ extension_strings (object_types s x)
+      ≡ extension_strings (object_types new s x)
   unfolding text
   extension_texts =
       map-append (text_from x.strings) (groups_offsets x Functions (groups x Functions)) (groups_offsets x Relocations (groups x Relocations))
-      ∙ ap (λ (t : List (List ℕ)). t ++ map (text_from x.strings) (groups_offsets x Relocations (groups x Relocations))) (function_texts x (groups x Functions))
-      ∙ ap (λ (t : List (List ℕ)). flat_map function_strings (function_groups x) ++ t) (relocation_texts x (groups x Relocations))
+      ∙ ap (λ (t : List (List ℕ)). t ++ map (text_from x.strings) (groups_offsets x Relocations (groups x Relocations))) (function_texts x new (groups x Functions))
+      ∙ ap (λ (t : List (List ℕ)). flat_map function_strings (function_groups new x) ++ t) (relocation_texts x new (groups x Relocations))
 
-  kept_offsets : kept (map (text_from s.strings) (both_offsets s x)) ≡ kept (types_strings (object_types s x))
+  kept_offsets : kept (map (text_from s.strings) (both_offsets s x)) ≡ kept (types_strings (object_types new s x))
   kept_offsets =
       let more = groups_offsets x Functions (groups x Functions) ++ groups_offsets x Relocations (groups x Relocations) in
       ap kept (map-append (text_from s.strings) (all_offsets s.frames) more)
@@ -92,18 +92,18 @@ module _ (s : SectionWords) (x : Section) (same : s.strings ≡ x.strings) (tabl
       ∙ ap (λ (t : List (List ℕ)). kept (names (records_in s) ++ t)) (ap (λ (l : List ℕ). map (text_from l) more) same ∙ extension_texts)
 
   -- the same strings are kept
-  kept_placed : kept (texts_by_offset (both_names s x)) ≡ kept (types_strings (object_types s x))
+  kept_placed : kept (texts_by_offset (both_names s x)) ≡ kept (types_strings (object_types new s x))
   kept_placed = kept_first_uses (text_from s.strings) (both_offsets s x) ∙ kept_offsets
 
   -- so they have the same offsets
-  pub placed_is : text_offset (both_names s x) ≡ offset_of (types_strings (object_types s x))
-  placed_is = same_offsets (texts_by_offset (both_names s x)) (types_strings (object_types s x)) kept_placed
+  pub placed_is : text_offset (both_names s x) ≡ offset_of (types_strings (object_types new s x))
+  placed_is = same_offsets (texts_by_offset (both_names s x)) (types_strings (object_types new s x)) kept_placed
 
   -- in the same table
-  pub table_is : distinct_table (texts_by_offset (both_names s x)) ≡ strings_of (types_strings (object_types s x))
+  pub table_is : distinct_table (texts_by_offset (both_names s x)) ≡ strings_of (types_strings (object_types new s x))
   table_is = ap table_of kept_placed
 
-  pub btf_is : (o : Order) → written_btf o s (both_names s x) ≡ btf_bytes o (object_types s x)
+  pub btf_is : (o : Order) → written_btf o s (both_names s x) ≡ btf_bytes o (object_types new s x)
   btf_is o =
       ap (λ (p : List ℕ → ℕ). btf_of o (types_bytes o p (records_in s)) (distinct_table (texts_by_offset (both_names s x)))) placed_is
-      ∙ ap (btf_of o (types_bytes o (offset_of (types_strings (object_types s x))) (records_in s))) table_is
+      ∙ ap (btf_of o (types_bytes o (offset_of (types_strings (object_types new s x))) (records_in s))) table_is

@@ -36,8 +36,9 @@ access_noted names x g k has lt =
     each_listed (Contains names.offsets) (access_off (section x) g) (group_count (section x) g) k
     (All-tail (Contains names.offsets) (group_name (section x) g) (record_offsets (section x) Relocations g) has.noted) lt
 
-pub records_next : (x : Section) (place : List ℕ → ℕ) (p : Part) (g k : ℕ) → records_bytes x place p g (k + 1) ≡ records_bytes x place p g k ++ record_bytes x place p g k
-records_next x place p g k = rw add-one refl
+pub records_next : (x : Section) (new : ℕ → ℕ) (place : List ℕ → ℕ) (p : Part) (g k : ℕ)
+    → records_bytes x new place p g (k + 1) ≡ records_bytes x new place p g k ++ record_bytes x new place p g k
+records_next x new place p g k = rw add-one refl
 
 -- one more of a list
 pub taken_next : {A : Type 0} (g : A → List ℕ) (xs : List A) (k : ℕ) (d : A) → k < length xs

@@ -15,6 +15,7 @@ use Rattle.bpf_object.specs.Kept.{kept_sections, kept_symbols}
 use Rattle.bpf_object.specs.Lines.{extension_rules}
 use Rattle.bpf_object.specs.Objects.{ObjectTypes, Object}
 use Rattle.bpf_object.specs.{Types.TypesSection, TypesFaults.KeepsTypes}
+use Rattle.bpf_object.specs.TypeOrder.{new_number, IsOrder, ordered}
 
 -- which sections are .BTF and .BTF.ext; 0 if there is none
 abbrev pub types_at : List ℕ → ℕ
@@ -45,17 +46,19 @@ rules_of_extension b strings =
 abbrev pub without_types_rules : List ℕ → List ObjectRule
 without_types_rules b = rule cause.ExtensionWithoutTypes (header_offset b (extension_at b)) (extension_at b == 0) ∷ []
 
--- the types, and what .BTF.ext says with their strings
-abbrev pub object_types : SectionWords → Section → ObjectTypes
-object_types s x = record { records = records_in s; functions = function_groups x; relocations = relocation_groups x }
+-- the types, and what .BTF.ext says with their strings, with new numbers of types
+abbrev pub object_types : (ℕ → ℕ) → SectionWords → Section → ObjectTypes
+object_types new s x = record { records = records_in s; functions = function_groups new x; relocations = relocation_groups new x }
 
--- .BTF and .BTF.ext keep all rules, and hold these types
+-- .BTF and .BTF.ext keep all rules, and hold these types; the records are in the order of a canonical file
 pub record HoldsTypes (b : List ℕ) (t : ObjectTypes) : Type 0 where
   pub sections : SectionWords
   pub there : 0 < types_at b
   pub types : KeepsTypes (types_of b) sections
   pub extension : AllHold (rules_of_extension b sections.strings)
-  pub whole : t ≡ object_types sections (extension_of b sections.strings)
+  pub ids : List ℕ
+  pub sorted : IsOrder sections ids
+  pub whole : t ≡ object_types (new_number ids) (ordered ids sections) (extension_of b sections.strings)
 
 abbrev pub TypesAre : List ℕ → Option ObjectTypes → Type 0
 TypesAre b None = (types_at b ≡ 0) × AllHold (without_types_rules b)

@@ -24,15 +24,26 @@ relocation_at x g k = record {
   kind = word x (record_offset Relocations g k + 12);
 }
 
-abbrev pub function_group : Section → ℕ → Group Function
-function_group x g = record { section = name_of x g; records = listed (λ k. true) (function_at x g) (group_count x g) }
+-- with the new number of the type
+abbrev pub renewed_function : (ℕ → ℕ) → Function → Function
+renewed_function new f = record { offset = f.offset; type = new f.type }
 
-abbrev pub relocation_group : Section → ℕ → Group CoreRelocation
-relocation_group x g = record { section = name_of x g; records = listed (λ k. true) (relocation_at x g) (group_count x g) }
+abbrev pub renewed_relocation : (ℕ → ℕ) → CoreRelocation → CoreRelocation
+renewed_relocation new r = record { offset = r.offset; type = new r.type; access = r.access; kind = r.kind }
+
+-- the numbers of types may stay
+abbrev pub same_number : ℕ → ℕ
+same_number id = id
+
+abbrev pub function_group : (ℕ → ℕ) → Section → ℕ → Group Function
+function_group new x g = record { section = name_of x g; records = listed (λ k. true) (λ k. renewed_function new (function_at x g k)) (group_count x g) }
+
+abbrev pub relocation_group : (ℕ → ℕ) → Section → ℕ → Group CoreRelocation
+relocation_group new x g = record { section = name_of x g; records = listed (λ k. true) (λ k. renewed_relocation new (relocation_at x g k)) (group_count x g) }
 
 -- all groups
-abbrev pub function_groups : Section → List (Group Function)
-function_groups x = map (function_group x) (groups x Functions)
+abbrev pub function_groups : (ℕ → ℕ) → Section → List (Group Function)
+function_groups new x = map (function_group new x) (groups x Functions)
 
-abbrev pub relocation_groups : Section → List (Group CoreRelocation)
-relocation_groups x = map (relocation_group x) (groups x Relocations)
+abbrev pub relocation_groups : (ℕ → ℕ) → Section → List (Group CoreRelocation)
+relocation_groups new x = map (relocation_group new x) (groups x Relocations)

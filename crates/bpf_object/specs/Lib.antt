@@ -8,6 +8,7 @@ pub mod Objects
 pub mod Kept
 pub mod Canonical
 pub mod Groups
+pub mod TypeOrder
 pub mod Denotes
 pub mod Types
 pub mod TypesFaults

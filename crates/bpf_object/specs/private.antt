@@ -12,3 +12,6 @@ pub mod FileOf
 pub mod FileWriter
 pub mod ObjectWriter
 pub mod AcceptedFacts
+pub mod NameRanks
+pub mod TypeSteps
+pub mod OrderedTypes

@@ -186,6 +186,7 @@ pub fn check_extension<A: Allocator + Copy>(
         start,
         bytes,
         strings,
+        numbers: &[],
     };
     check_source(alloc, x)
 }

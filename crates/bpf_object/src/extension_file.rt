@@ -8,6 +8,7 @@ ghost use Rattle.bpf_object.specs.Canonical.{extension_of as spec_extension, ext
 ghost use Rattle.bpf_object.specs.private.NotedStrings.{HasStrings, text_offset};
 ghost use Rattle.bpf_object.specs.Sources.{section, HasGroup};
 ghost use Rattle.bpf_object.specs.private.WrittenGroups as spec;
+ghost use Rattle.bpf_object.specs.private.TypeSteps.{numbered};
 
 use crate::extension::Part;
 use crate::extension_writer::push_part;
@@ -88,7 +89,8 @@ fn part_of<A: Allocator, B: Allocator>(
     requires groups { All (HasGroup x (spec.source_part part)) groups.now }
     requires names { All (HasStrings names.now x part) groups.now }
     ensures { IfOk result (λ out. out.items
-        ≡ spec.written_part (section x.entry) (text_offset names.now) part groups.now) }
+        ≡ spec.written_part (section x.entry) (numbered x.entry.numbers.now)
+        (text_offset names.now) part groups.now) }
 {
     let mut out = Vec::new(alloc);
     push_part(&mut out, names, x, part, groups)?;
@@ -109,7 +111,8 @@ pub(crate) fn write_extension<A: Allocator + Copy>(
     requires relocations { All (HasGroup x Relocations) relocations.now }
     requires function_names { All (HasStrings names.now x Functions) functions.now }
     requires relocation_names { All (HasStrings names.now x Relocations) relocations.now }
-    ensures { let whole = spec.written_extension (section x.entry) (text_offset names.now)
+    ensures { let whole = spec.written_extension (section x.entry) (numbered x.entry.numbers.now)
+        (text_offset names.now)
         functions.now relocations.now in
         IfOk result (λ found. MatchOption found (limit < length whole)
         (λ out. out.items ≡ whole)) }

@@ -10,9 +10,11 @@ ghost use Rattle.bpf_object.specs.Lines.{name_of};
 ghost use Rattle.bpf_object.specs.private.NotedStrings.{HasStrings, text_offset};
 ghost use Rattle.bpf_object.specs.Sources.{section, HasGroup};
 ghost use Rattle.bpf_object.specs.private.WrittenGroups as spec;
+ghost use Rattle.bpf_object.specs.private.TypeSteps.{numbered};
 
 use crate::extension::Part;
 use crate::source::{Source, access_off, group_count, record_size, records_len, word};
+use crate::type_keys::new_number;
 use bpf_canon::DistinctOffsets;
 use bpf_words::{push_words, push32};
 use std::alloc::{AllocError, Allocator};
@@ -69,16 +71,18 @@ fn push_record<A: Allocator, B: Allocator>(
     requires there { k < spec_count (section x) group }
     requires names { HasStrings names.now x part group }
     ensures { OnOk result (out.new.items ≡ out.old.items
-        ++ spec.record_bytes (section x.entry) (text_offset names.now) part group k) }
+        ++ spec.record_bytes (section x.entry) (numbered x.entry.numbers.now)
+        (text_offset names.now) part group k) }
 {
     let at = group + 8 + records_len(source_part(part), k);
     push32(out, x.order, word(x, at) as u32)?;
+    let target = new_number(x.numbers, word(x, at + 4) as u32);
     match part {
-        Part::Functions => push32(out, x.order, word(x, at + 4) as u32),
+        Part::Functions => push32(out, x.order, target),
         Part::Lines => push_words(out, x.order, &[0, 0, 0]),
         Part::Relocations => {
             let access = access_offset(names, x, group, k);
-            let words = [word(x, at + 4) as u32, access, word(x, at + 12) as u32];
+            let words = [target, access, word(x, at + 12) as u32];
             push_words(out, x.order, &words)
         }
     }
@@ -95,7 +99,8 @@ fn push_records<A: Allocator, B: Allocator>(
     requires group { HasGroup x (spec.source_part part) group }
     requires names { HasStrings names.now x part group }
     ensures { OnOk result (out.new.items ≡ out.old.items
-        ++ spec.records_bytes (section x.entry) (text_offset names.now) part group
+        ++ spec.records_bytes (section x.entry) (numbered x.entry.numbers.now)
+        (text_offset names.now) part group
         (spec_count (section x.entry) group)) }
 {
     for k in 0..group_count(x, group) {
@@ -115,7 +120,8 @@ fn push_group<A: Allocator, B: Allocator>(
     requires group { HasGroup x (spec.source_part part) group }
     requires names { HasStrings names.now x part group }
     ensures { OnOk result (out.new.items ≡ out.old.items
-        ++ spec.group_bytes_at (section x.entry) (text_offset names.now) part group) }
+        ++ spec.group_bytes_at (section x.entry) (numbered x.entry.numbers.now)
+        (text_offset names.now) part group) }
 {
     push32(out, x.order, new_name_offset(names, x, part, group))?;
     push32(out, x.order, group_count(x, group) as u32)?;
@@ -133,7 +139,8 @@ fn push_groups<A: Allocator, B: Allocator>(
     requires groups { All (HasGroup x (spec.source_part part)) groups.now }
     requires names { All (HasStrings names.now x part) groups.now }
     ensures { OnOk result (out.new.items ≡ out.old.items
-        ++ spec.groups_bytes (section x.entry) (text_offset names.now) part groups.now) }
+        ++ spec.groups_bytes (section x.entry) (numbered x.entry.numbers.now)
+        (text_offset names.now) part groups.now) }
 {
     for k in 0..groups.len() {
         push_group(out, names, x, part, groups[k])?;
@@ -152,7 +159,8 @@ pub(crate) fn push_part<A: Allocator, B: Allocator>(
     requires groups { All (HasGroup x (spec.source_part part)) groups.now }
     requires names { All (HasStrings names.now x part) groups.now }
     ensures { OnOk result (out.new.items ≡ out.old.items
-        ++ spec.written_part (section x.entry) (text_offset names.now) part groups.now) }
+        ++ spec.written_part (section x.entry) (numbered x.entry.numbers.now)
+        (text_offset names.now) part groups.now) }
 {
     if groups.is_empty() {
         return Ok(());

@@ -7,9 +7,10 @@
 //! has. [`laws`] says that canonical files are valid, and tell objects apart.
 //! [`check_extension`] is a part of the calls.
 //!
-//! Definitions first: `specs/Objects.antt` says what an object is, `Kept` and `Denotes` which one a
-//! file denotes, `Canonical` its canonical file, `ObjectFaults` the fault of a file that has none, and
-//! `SourceLines` the line of an instruction. Then the code, from `canon` and `accepted` on:
+//! Definitions first: `specs/Objects.antt` says what an object is, `Kept`, `TypeOrder` and `Denotes`
+//! which one a file denotes, `Canonical` its canonical file, `ObjectFaults` the fault of a file that
+//! has none, and `SourceLines` the line of an instruction. Then the code, from `canon` and `accepted`
+//! on:
 //!
 //! - `types`, with `type_checks`, checks .BTF.
 //! - `extension` checks .BTF.ext: its parts in `group_checks`, functions with their lines in `pairs`
@@ -17,6 +18,8 @@
 //!   with the symbols of the file. `source` and `cursors` read the section.
 //! - `section_groups` finds the group of records of a section, and `source_lines` in it the line of
 //!   an instruction.
+//! - `type_order` finds the order of the records of .BTF, by `type_keys`, `type_layers` and
+//!   `name_ranks`, and `ordered_types` writes them in it.
 //! - `extension_file` writes .BTF.ext anew, by `groups` and `extension_writer`.
 //! - `object_writer` writes the file in one pass: the sections by `section_writer`, with the rows of
 //!   `relocation_rows`, then .BTF and .BTF.ext, then the symbols by `symbol_rows`. `names` is the
@@ -41,9 +44,11 @@ mod groups;
 mod key;
 pub mod laws;
 mod line_checks;
+mod name_ranks;
 mod names;
 mod numbering;
 mod object_writer;
+mod ordered_types;
 mod pairs;
 mod relocation_rows;
 mod same;
@@ -53,6 +58,9 @@ mod source;
 mod source_lines;
 mod symbol_rows;
 mod type_checks;
+mod type_keys;
+mod type_layers;
+mod type_order;
 mod types;
 mod types_writer;
 

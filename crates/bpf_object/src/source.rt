@@ -5,6 +5,7 @@ ghost use Rattle.bpf_object.specs.Extension as spec;
 ghost use Rattle.bpf_object.specs.declared.extension.Part.TheVariants.{Relocations};
 ghost use Rattle.bpf_object.specs.Groups.{access_off as spec_access};
 ghost use Rattle.bpf_object.specs.Sources.{section, HasGroup};
+ghost use Rattle.bpf_object.specs.private.WrittenTypes.{IsRead};
 
 use crate::extension::Part;
 use bpf_words::{Order, get32};
@@ -20,6 +21,24 @@ pub(crate) struct Source<'a> {
     pub(crate) bytes: &'a [u8],
     /// The strings of .BTF.
     pub(crate) strings: &'a [u8],
+    /// The numbers of types in the canonical file, from void on; a number past the last stays.
+    pub(crate) numbers: &'a [u32],
+}
+
+/// The same section, with these new numbers of types.
+pub(crate) fn renumbered<'a>(x: Source<'a>, numbers: &'a [u32]) -> Source<'a>
+    ensures numbers { result.numbers.now ≡ numbers.now }
+    ensures strings { result.strings.now ≡ x.entry.strings.now }
+    ensures same { section result ≡ section x.entry }
+    ensures read { IsRead x.entry → IsRead result }
+{
+    Source {
+        order: x.order,
+        start: x.start,
+        bytes: x.bytes,
+        strings: x.strings,
+        numbers,
+    }
 }
 
 /// A 32-bit number of the section, as an index of it.

@@ -15,6 +15,7 @@ ghost use Rattle.bpf_object.specs.declared.extension.Part.TheVariants.{Functions
 ghost use Rattle.bpf_object.specs.Denotes.{object_types};
 ghost use Rattle.bpf_object.specs.Sources.{section};
 ghost use Rattle.bpf_object.specs.private.WrittenTypes as spec;
+ghost use Rattle.bpf_object.specs.private.TypeSteps.{numbered};
 
 use crate::extension::Part;
 use crate::extension_file::write_extension;
@@ -153,7 +154,7 @@ fn write_both<A: Allocator + Copy>(
     requires strings { x.strings.now ≡ sections.now.strings }
     requires table { IsTable sections.now }
     requires names { names.now ≡ spec.both_names sections.now (section x) }
-    ensures { let t = object_types sections.now (section x.entry) in
+    ensures { let t = object_types (numbered x.entry.numbers.now) sections.now (section x.entry) in
         IfOk result (λ found. MatchOption found (spec.AreTooLong limit x.entry.order t)
         (spec.AreWritten x.entry.order t)) }
 {
@@ -189,7 +190,7 @@ pub(crate) fn write_types<A: Allocator + Copy>(
     requires limit { (65536 ≤ limit) × (limit ≤ FILE_LIMIT) }
     requires extension { spec.IsRead x }
     requires strings { x.strings.now ≡ sections.now.strings }
-    ensures { let t = object_types sections.now (section x.entry) in
+    ensures { let t = object_types (numbered x.entry.numbers.now) sections.now (section x.entry) in
         IfOk result (λ found. MatchOption found (spec.AreTooLong limit x.entry.order t)
         (spec.AreWritten x.entry.order t)) }
 {

@@ -1,20 +1,16 @@
 use Rattle.std.proofs.Common.{Some, ap, ◌∙◌, refl}
 use Rattle.bpf_object.specs.{Sources.section}
-use Rattle.bpf_object.proofs.ObjectLemmas.{Keeps, typed_large, typed_file}
+use Rattle.bpf_object.proofs.ObjectLemmas.{typed_large, typed_file}
 use Rattle.bpf_object.proofs.canon.write_typed.Goals as goal
 
 pub returns-in_default : goal.returns-in_default
 returns-in_default g c =
-    let keeps : Keeps c.args.elf.now c.args.sections.now =
-    record { elf = c.requires.elf; there = c.requires.there; types = c.requires.types; extension = c.requires.extension } in
     let over = rw c.in_default.is at c.in_ok-written.ensures in
-    typed_large c.args.elf.now c.args.sections.now (section c.args.x) _ c.result_limit.result keeps c.requires.own c.result_limit.ensures.value over
-    (record { pos = refl; cause = refl })
+    typed_large c.args.elf.now c.args.sections.now c.args.x.numbers.now (section c.args.x) c.requires.types c.requires.own _ c.result_limit.result c.result_limit.ensures.value
+    over (record { pos = refl; cause = refl })
 
 pub returns : goal.returns
 returns g c =
-    let keeps : Keeps c.args.elf.now c.args.sections.now =
-    record { elf = c.requires.elf; there = c.requires.there; types = c.requires.types; extension = c.requires.extension } in
     let written = rw c.in-Some.is at c.in_ok-written.ensures in
-    typed_file (λ out. out.items) c.args.elf.now c.args.sections.now (section c.args.x) _ _ c.write_object.result keeps c.requires.own
+    typed_file c.args.elf.now c.args.sections.now c.args.x.numbers.now (section c.args.x) c.requires.types c.requires.own (λ out. out.items) _ _ c.write_object.result
     (written.fit, (ap Some (c.as_slice.ensures.value ∙ written.types), c.content-extension.ensures ∙ written.extension)) c.write_object.ensures

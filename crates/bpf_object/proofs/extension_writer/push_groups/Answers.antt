@@ -1,5 +1,6 @@
 use Rattle.bpf_object.specs.private.NotedStrings.{text_offset}
 use Rattle.bpf_object.specs.Sources.{section}
+use Rattle.bpf_object.specs.private.TypeSteps.{numbered}
 use Rattle.bpf_object.specs.private.WrittenGroups.{group_bytes_at}
 use Rattle.bpf_object.proofs.KeptLemmas.{appended}
 use Rattle.bpf_object.proofs.WrittenStrings.{taken_next}
@@ -7,5 +8,5 @@ use Rattle.bpf_object.proofs.extension_writer.push_groups.Goals as goal
 
 pub loop-k-preserved : goal.loop-k-preserved
 loop-k-preserved g c =
-    let next = taken_next (group_bytes_at (section c.args.x) (text_offset c.args.names.now) c.args.part) c.args.groups.now c.loop-k.k 0 c.loop-k-test.true in
+    let next = taken_next (group_bytes_at (section c.args.x) (numbered c.args.x.numbers.now) (text_offset c.args.names.now) c.args.part) c.args.groups.now c.loop-k.k 0 c.loop-k-test.true in
     appended _ _ _ _ _ _ c.loop-k.invariant c.in_ok-push_group.ensures next

@@ -1,6 +1,7 @@
 use Rattle.std.proofs.Common.{◌<◌, length, inl, refl, sym}
 use Rattle.bpf_canon.specs.btf.strings.{NamesByOffset.texts_by_offset, DistinctNames.distinct_table}
 use Rattle.bpf_object.specs.Sources.{section}
+use Rattle.bpf_object.specs.private.TypeSteps.{numbered}
 use Rattle.bpf_object.specs.private.WrittenTypes.{both_names}
 use Rattle.bpf_object.proofs.FitLemmas.{long_table}
 use Rattle.bpf_object.proofs.types_writer.write_types.Goals as goal
@@ -10,4 +11,4 @@ returns-in_default g c =
     let s = c.args.sections.now in
     let names = both_names s (section c.args.x) in
     let long : c.min-short.result < length (distinct_table (texts_by_offset names)) = rw c.in_default.is at c.in_ok-names.ensures.offsets in
-    inl (rw c.min-short.ensures at (long_table s (section c.args.x) (sym c.requires.strings) c.in_ok-names.ensures.table names refl c.min-short.result long))
+    inl (rw c.min-short.ensures at (long_table s (section c.args.x) (numbered c.args.x.numbers.now) (sym c.requires.strings) c.in_ok-names.ensures.table names refl c.min-short.result long))

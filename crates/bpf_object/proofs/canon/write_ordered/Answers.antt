@@ -1,0 +1,12 @@
+-- The order is that of the records.
+use Rattle.std.proofs.Common.{List, ℕ, sym, subst, ◌∙◌}
+use Rattle.bpf_object.specs.private.TypeSteps.{AreNumbered}
+use Rattle.bpf_object.proofs.canon.write_ordered.Goals as goal
+
+pub write_in_order-requires-clause-order : goal.write_in_order-requires-clause-order
+write_in_order-requires-clause-order g c =
+    let s = c.args.sections.now in
+    let order = c.in-Some.order in
+    let found : AreNumbered s order.ids.items order.numbers.items = rw c.in-Some.is at c.in_ok-order.ensures in
+    subst (λ (ids : List ℕ). AreNumbered s ids c.renumbered-x.result.numbers.now) (sym c.deref-2.ensures.value)
+    (subst (λ (numbers : List ℕ). AreNumbered s order.ids.items numbers) (sym (c.renumbered-x.ensures.numbers ∙ c.deref.ensures.value)) found)
