@@ -11,7 +11,7 @@ from __future__ import annotations
 
 import argparse
 from bisect import bisect_left
-from collections import namedtuple
+from collections import defaultdict, namedtuple
 from enum import Enum
 from fnmatch import fnmatchcase
 from struct import iter_unpack, pack, unpack_from
@@ -32,23 +32,19 @@ ELF_HEADER, SECTION_HEADER, SYMBOL, RELOCATION = "16sHHIQQQIHHHHHH", "IIQQQQIIQQ
 SH_NAME, SH_TYPE, SH_OFFSET, SH_SIZE, SH_LINK, SH_INFO, SH_ENTSIZE = 0, 4, 24, 32, 40, 44, 56
 ST_NAME, ST_SHNDX, ST_VALUE, R_INFO = 0, 6, 8, 8
 
-
 class Refused(Exception):
     """A file has no canonical file: the first rule that it breaks, and the offset where it does."""
     def __init__(self, cause: str, offset: int) -> None:
         self.cause, self.offset = cause, offset
-
 
 def rule(cause: str, offset: int, holds: bool) -> None:
     """Refuses the file unless a rule holds."""
     if not holds:
         raise Refused(cause, offset)
 
-
 def string_at(strings: bytes, offset: int) -> bytes:
     """A name in the original: the string from its offset to the next NUL."""
     return strings[offset : strings.index(b"\0", offset)]
-
 
 # The file. Sections of two kinds are kept, and of three written anew. UNKNOWN ones are refused.
 Kind = Enum("Kind", "DATA RELOCATIONS SYMBOLS TYPES EXTENSION DROPPED UNKNOWN")
@@ -71,10 +67,8 @@ KINDS = (
 Section = namedtuple("Section", "sh_name sh_type sh_flags sh_addr sh_offset sh_size sh_link"
     " sh_info sh_addralign sh_entsize place number kind name")  # fmt: skip
 
-
 def is_reserved(name: bytes) -> bool:
     return any(fnmatchcase(name, it) for _, names, _, _ in KINDS[:8] for it in names)
-
 
 def kind_of(name: bytes, section: Section) -> Kind:
     for types, names, zero, kind in KINDS:
@@ -82,7 +76,6 @@ def kind_of(name: bytes, section: Section) -> Kind:
             is_taken = kind is Kind.DATA and is_reserved(name)
             return Kind.UNKNOWN if section.sh_flags & zero or is_taken else kind
     return Kind.UNKNOWN
-
 
 class Strings:
     """A string table: each distinct string once, in the order of first use."""
@@ -96,7 +89,6 @@ class Strings:
             rule("ResultTooLarge", 0, len(self.content) <= MAX_FILE)
         return self.offsets[string]
 
-
 def canonical(data: bytes) -> bytes:
     """The canonical file of an object file. Raises Refused for the first rule that it breaks."""
     elf = Elf(data)
@@ -104,7 +96,6 @@ def canonical(data: bytes) -> bytes:
     result = write_file(elf, write_types(types, parts) if types else {})
     rule("ResultTooLarge", 0, len(result) <= min(MAX_FILE, 4 * len(data) + 64 * 1024))
     return result
-
 
 def write_file(elf: Elf, types: dict[bytes, bytes]) -> bytes:
     """The ELF header, the contents, each followed by zeros up to a multiple of 8, the headers."""
@@ -124,8 +115,7 @@ def write_file(elf: Elf, types: dict[bytes, bytes]) -> bytes:
             link, info = symtab, sections[it.sh_info]
             content = b"".join(
                 pack(elf.mark + RELOCATION, at, numbers[info >> 32] << 32 | info & 0xFFFFFFFF)
-                for at, info in iter_unpack(elf.mark + RELOCATION, content)
-            )
+                for at, info in iter_unpack(elf.mark + RELOCATION, content))
         append(it.name, content, *it[1:4], it.sh_size, link, info, it.sh_addralign, it.sh_entsize)
     for name, content in types.items():
         append(name, content, SHT_PROGBITS, 0, 0, len(content), 0, 0, 4, 0)
@@ -133,8 +123,7 @@ def write_file(elf: Elf, types: dict[bytes, bytes]) -> bytes:
         strings.add(name)
     symbols = [
         (strings.add(string_at(names, name)), info, other, sections.get(shndx, shndx), *place)
-        for name, info, other, shndx, *place in elf.symbols.values()
-    ]
+        for name, info, other, shndx, *place in elf.symbols.values()]
     last_local = max(number for number, it in enumerate(symbols) if it[1] >> 4 == STB_LOCAL)
     rows = b"".join(pack(elf.mark + SYMBOL, *it) for it in symbols)
     append(b".symtab", rows, SHT_SYMTAB, 0, 0, len(rows), symtab + 1, 1 + last_local, 8, 24)
@@ -143,17 +132,24 @@ def write_file(elf: Elf, types: dict[bytes, bytes]) -> bytes:
     body[:64] = pack(elf.mark + ELF_HEADER, *start, symtab + 2, symtab + 1)
     return bytes(body + headers)
 
-
 def write_types(types: Types, parts: list[list[Group]]) -> dict[bytes, bytes]:
     """.BTF, and .BTF.ext if it has functions or CO-RE relocations."""
-    strings, written = Strings(), []
-    records = write_words(types, types.records[1:], strings)
+    strings, numbers, written = Strings(), new_numbers(types), []
+    def words_of(rows: list[Record]) -> bytes:
+        """The words of rows, with new offsets of names and new numbers of types."""
+        words = []
+        for field, word in (both for it in rows for both in zip(it.fields, it.words)):
+            if field == NAME:
+                word = strings.add(string_at(types.strings, word))
+            words.append(numbers.get(word, word) if field == TYPE else word)
+        return pack(f"{types.mark}{len(words)}I", *words)
+    records = words_of([types.records[it] for it in numbers if it > 0])
     for fields, groups in zip(PARTS, parts):
         rows = [Record(("record_size",), (4 * len(fields),))] if groups else []
         for it in groups:
             rows.append(Record((NAME, "num_info"), (it.sec_name_off, len(it.records))))
             rows += [Record(fields, one) for one in it.records]
-        written.append(write_words(types, rows, strings))
+        written.append(words_of(rows))
     one, two, three = map(len, written)
     places, size = (32, 0, one, one, two, one + two, three), len(records)
     extension = pack(types.mark + "HBB7I", BTF_MAGIC, 1, 0, *places) + b"".join(written)
@@ -162,16 +158,27 @@ def write_types(types: Types, parts: list[list[Group]]) -> dict[bytes, bytes]:
     rule("ResultTooLarge", 0, len(btf) <= MAX_TYPES)
     return {b".BTF": btf, b".BTF.ext": extension} if any(written) else {b".BTF": btf}
 
-
-def write_words(types: Types, rows: list[Record], strings: Strings) -> bytes:
-    """The words of rows. Names get their offsets in the new string table."""
-    words = [
-        strings.add(string_at(types.strings, word)) if field == NAME else word
-        for it in rows
-        for field, word in zip(it.fields, it.words)
-    ]
-    return pack(f"{types.mark}{len(words)}I", *words)
-
+def new_numbers(types: Types) -> dict[int, int]:
+    """The new number of each type: of others, VAR, DATASEC, FWD, and TYPE_TAG in layers."""
+    numbers: dict[int, int] = {}
+    kinds, tags = defaultdict[str, list[int]](list), defaultdict[int, list[int]](list)
+    for number, it in enumerate(types.records):
+        kinds[it.kind if it.kind in MOVED else ""].append(number)
+        if it.kind == "TYPE_TAG":
+            tags[it.words[2]].append(number)
+    def key(number: int) -> tuple[int | bytes, ...]:
+        """By the name, and for TYPE_TAG by the new number of the type: others have no type yet."""
+        name_off, info, target, *_ = types.records[number].words
+        name = string_at(types.strings, name_off)
+        return len(name), name, info >> 31, numbers.get(target, 0), number
+    variables, forward = (sorted(kinds[kind], key=key) for kind in ("VAR", "FWD"))
+    layer = kinds[""] + variables + kinds["DATASEC"] + forward
+    while layer:
+        numbers.update(zip(layer, range(len(numbers), len(types.records))))
+        layer = sorted((tag for number in layer for tag in tags[number]), key=key)
+    loops = (it for it in kinds["TYPE_TAG"] if it not in numbers)
+    numbers.update(zip(loops, range(len(numbers), len(types.records))))
+    return numbers
 
 # Refused files: what reads a part of a file checks its rules, in the order of the page.
 class Elf:
@@ -279,7 +286,6 @@ class Elf:
                 for at, (_, info) in zip(range(it.sh_offset, len(self.data), 16), rows):
                     rule("RelocationSymbol", at + R_INFO, info >> 32 in self.symbols)
 
-
 # Names of fields. Then the fields after name_off and info, by the kind of a record in the order of
 # btf.rst, and those of each of its items.
 NAME, INFO, SIZE, TYPE, ZERO = "name_off", "info", "size", "type", "0"
@@ -295,6 +301,7 @@ ITEM_FIELDS = {
     "DATASEC": (TYPE, "place", "length")}
 NAMELESS = {"PTR", "ARRAY", "VOLATILE", "CONST", "RESTRICT", "FUNC_PROTO"}
 NAMED = {"FWD", "TYPEDEF", "FUNC", "VAR", "DATASEC", "DECL_TAG", "TYPE_TAG"}
+MOVED = {"VAR", "DATASEC", "FWD", "TYPE_TAG"}
 WITH_FLAG = {"STRUCT", "UNION", "ENUM", "FWD", "DECL_TAG", "TYPE_TAG", "ENUM64"}
 TARGETS = {"FUNC": ["FUNC_PROTO"], "DATASEC": ["VAR", "FUNC"]}
 TARGETS["DECL_TAG"] = ["STRUCT", "UNION", "FUNC", "VAR", "TYPEDEF"]
@@ -303,7 +310,6 @@ Record = namedtuple("Record", "fields words place kind has_bit_fields", defaults
 # The records of a section in a part of .BTF.ext, and the fields of those of each part.
 Group = namedtuple("Group", "place sec_name_off records")
 PARTS = (("insn_off", TYPE), ("insn_off", "file", "line", "col"), ("insn_off", TYPE, NAME, "kind"))
-
 
 class Types:
     """A .BTF by itself, by FAULTS.md, with offsets in .BTF. Number 0 of the records is void."""
@@ -387,7 +393,6 @@ class Types:
                 is_inside = word == 0xFFFFFFFF or word < owner.words[1] & 0xFFFF
                 rule("Component", at, is_faulty or is_inside)
 
-
 def read_types(elf: Elf) -> Types | None:
     if (section := elf.last.get(Kind.TYPES)) is None:
         return None
@@ -409,7 +414,6 @@ def read_types(elf: Elf) -> Types | None:
             elif field == INFO and kind in ("STRUCT", "UNION"):
                 rule("TypesFlag", at + 4, word >> 31 == 0 or record.has_bit_fields)
     return types
-
 
 def read_extension(elf: Elf, types: Types | None) -> list[list[Group]]:
     """The groups of functions, of the lines that are written, and of CO-RE relocations."""
@@ -438,7 +442,6 @@ def read_extension(elf: Elf, types: Types | None) -> list[list[Group]]:
             rule("ExtensionString", at + 8, access_str_off < len(types.strings))
     return [parts[0], lines, parts[2]]
 
-
 def read_part(elf: Elf, strings: bytes, at: int, end: int, words: int) -> list[Group]:
     """The groups of a part, whose records have this many words."""
     if at == end:
@@ -455,7 +458,6 @@ def read_part(elf: Elf, strings: bytes, at: int, end: int, words: int) -> list[G
         groups.append(Group(at, name, list(records)))
         at = last
     return groups
-
 
 def check_lines(elf: Elf, strings: bytes, functions: list[Group], lines: list[Group]) -> None:
     groups: dict[bytes, tuple[set[int], list[int]]] = {}
@@ -477,7 +479,6 @@ def check_lines(elf: Elf, strings: bytes, functions: list[Group], lines: list[Gr
             at = elf.last[Kind.SYMBOLS].sh_offset + 24 * number + ST_VALUE
             rule("FunctionLines", at, value in of_functions or not has_line)
 
-
 def main() -> None:
     parser = argparse.ArgumentParser(description=__doc__.partition("\n")[0])
     parser.add_argument("file", nargs="?", default="/dev/stdin", metavar="FILE")
@@ -493,7 +494,6 @@ def main() -> None:
         parser.exit(1, f"{given.file}: byte {it.offset}: {it.cause}: {hint}\n")
     except OSError as error:
         parser.exit(2, f"{error}\n")
-
 
 if __name__ == "__main__":
     main()

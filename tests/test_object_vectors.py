@@ -9,10 +9,11 @@ import re
 import subprocess
 import sys
 from pathlib import Path
+from typing import Iterator
 
 import pytest
 
-from docs.canon import Refused, Types, canonical
+from docs.canon import Elf, Refused, Types, canonical, read_types, string_at
 from tests import TOP, object_vectors, vector_rows
 from tests.command import SECONDS
 from tests.needs import need
@@ -68,6 +69,21 @@ def test_definition(row: Row) -> None:
         assert row.key == hashlib.sha256(canonical(row.content)).hexdigest()
     except Refused as refused:
         assert row.fault == Fault(refused.offset, refused.cause)
+
+
+def test_order_of_types() -> None:
+    """The types of this file, whose order tools/objects/type_order.py states, are in the order of its canonical file."""
+    files = (row.content for row in ACCEPTED if row.file.startswith("changed.type_order."))
+    names = [[(it.kind, string_at(types.strings, it.words[0])) for it in types.records] for types in both_types(*files)]
+    assert names[0] == names[1] and ("TYPE_TAG", b"percpu") in names[0]
+
+
+def both_types(content: bytes) -> Iterator[Types]:
+    """The types of a file, and of its canonical one."""
+    for data in content, canonical(content):
+        types = read_types(Elf(data))
+        assert types
+        yield types
 
 
 @pytest.mark.parametrize("field", ["little", "big"])

@@ -5,6 +5,7 @@ package main
 import (
 	"bufio"
 	"bytes"
+	"crypto/sha256"
 	"encoding/binary"
 	"fmt"
 	"io"
@@ -21,10 +22,14 @@ import (
 
 const patience = 20 * time.Second
 
-// view is the text about one object. Types are shown by their number.
+// moved are the kinds of types that have other numbers in a canonical file.
+var moved = map[string]bool{"*btf.Var": true, "*btf.Datasec": true, "*btf.Fwd": true, "*btf.typeTag": true, "*btf.TypeTag": true}
+
+// view is the text about one object. Types are shown by a digest of what they are.
 type view struct {
 	strings.Builder
-	ids map[uintptr]int
+	ids     map[uintptr]int
+	digests []string
 }
 
 func (v *view) types(spec *btf.Spec) {
@@ -37,11 +42,36 @@ func (v *view) types(spec *btf.Spec) {
 		v.ids[reflect.ValueOf(iter.Type).Pointer()] = len(types)
 		types = append(types, iter.Type)
 	}
+	texts := v.texts(types)
+	var last []string
 	for id, typ := range types {
-		fmt.Fprintf(v, "type %d %T ", id, typ)
-		v.value(reflect.ValueOf(typ).Elem())
-		v.WriteByte('\n')
+		if moved[fmt.Sprintf("%T", typ)] {
+			last = append(last, texts[id])
+		} else {
+			fmt.Fprintln(v, texts[id])
+		}
 	}
+	sort.Strings(last)
+	fmt.Fprintln(v, strings.Join(last, "\n"))
+}
+
+// texts are those of types. Each round tells types apart by what is one reference farther away.
+func (v *view) texts(types []btf.Type) []string {
+	texts := make([]string, len(types))
+	v.digests = make([]string, len(types))
+	for count, before := 0, -1; count > before; {
+		digests, known := make([]string, len(types)), make(map[string]bool)
+		for id, typ := range types {
+			one := view{ids: v.ids, digests: v.digests}
+			fmt.Fprintf(&one, "type %T ", typ)
+			one.value(reflect.ValueOf(typ).Elem())
+			texts[id] = one.String()
+			digests[id] = fmt.Sprintf("#%x", sha256.Sum256([]byte(texts[id])))[:17]
+			known[digests[id]] = true
+		}
+		before, count, v.digests = count, len(known), digests
+	}
+	return texts
 }
 
 func (v *view) value(value reflect.Value) {
@@ -54,7 +84,7 @@ func (v *view) value(value reflect.Value) {
 		v.value(value.Elem())
 	case reflect.Ptr:
 		if id, isType := v.ids[value.Pointer()]; isType {
-			fmt.Fprintf(v, "#%d", id)
+			v.WriteString(v.digests[id])
 		} else if value.IsNil() || value.Type() == reflect.TypeOf((*btf.Spec)(nil)) {
 			v.WriteString("-")
 		} else {
@@ -76,7 +106,10 @@ func (v *view) value(value reflect.Value) {
 		}
 		v.WriteByte(']')
 	default:
-		fmt.Fprintf(v, "%#v", value)
+		// A relocation has the number of its type beside the type.
+		if !value.IsValid() || value.Type() != reflect.TypeOf(btf.TypeID(0)) {
+			fmt.Fprintf(v, "%#v", value)
+		}
 	}
 }
 

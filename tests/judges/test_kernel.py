@@ -3,6 +3,7 @@
 from __future__ import annotations
 
 import json
+import re
 import shutil
 import subprocess
 from pathlib import Path
@@ -10,6 +11,7 @@ from typing import Any, Iterator
 
 from tests.judges.conftest import Canon, Tally, each
 from tests.judges.objects import XDP_TOOLS, all_made
+from tests.judges.tools import types_by_structure
 
 PROGRAM = ("name", "type", "tag", "gpl_compatible", "bytes_xlated")
 MAP = ("name", "type", "flags", "bytes_key", "bytes_value", "max_entries")
@@ -18,8 +20,12 @@ INSTALLED = [it for it in all_made() if it.source.name.endswith("-el.elf") or it
 LOADABLE = [*(it for it in all_made() if it.order == "little" and it.tool in ("", "linked")), *INSTALLED]
 
 
+def told(*words: str) -> str:
+    return subprocess.run(["bpftool", "-j", *words], capture_output=True, text=True, check=True).stdout
+
+
 def ask(*words: str) -> Any:
-    return json.loads(subprocess.run(["bpftool", "-j", *words], capture_output=True, check=True).stdout)
+    return json.loads(told(*words))
 
 
 def fields(answer: dict[str, Any], names: tuple[str, ...]) -> dict[str, Any]:
@@ -27,16 +33,17 @@ def fields(answer: dict[str, Any], names: tuple[str, ...]) -> dict[str, Any]:
 
 
 def types_of(program: dict[str, Any]) -> Any:
-    return ask("btf", "dump", "id", str(program["btf_id"])) if "btf_id" in program else None
+    return types_by_structure(told("btf", "dump", "id", str(program["btf_id"]))) if "btf_id" in program else None
 
 
 def loaded(content: bytes, folder: Path, pins: Path) -> Iterator[Any]:
-    """What the kernel has loaded of an object, or the first error. The names of maps begin with that of the file."""
+    """What the kernel has loaded of an object, or the first error without numbers of types. The names of maps begin with that of the file."""
     path, place = folder / "loaded.o", pins / "object"
     path.write_bytes(content)
     done = subprocess.run(["bpftool", "prog", "loadall", path, place], capture_output=True, text=True, check=False)
     if done.returncode:
-        yield next((it for it in done.stderr.splitlines() if it.startswith("libbpf: ") and ("rror" in it or "failed" in it)), "refused")
+        lines = (re.sub(r"\[\d+\]", "[]", it) for it in done.stderr.splitlines() if it.startswith("libbpf: "))
+        yield next((it for it in lines if "rror" in it or "failed" in it), "refused")
     for pin in sorted(place.iterdir()) if place.is_dir() else ():
         program = ask("prog", "show", "pinned", str(pin))
         maps = (ask("map", "show", "id", str(it)) for it in program.get("map_ids", ()))

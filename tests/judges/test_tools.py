@@ -4,25 +4,26 @@ from __future__ import annotations
 
 import importlib
 from pathlib import Path
-from typing import Any, Iterator
+from typing import Any, Callable, Iterator
 
 import pytest
 
 from tests.judges.conftest import Canon, Refused, Tally, each
 from tests.judges.objects import all_made
-from tests.judges.tools import ask, without_file, without_labels
+from tests.judges.tools import ask, types_by_structure, without_file, without_labels
 from tests.needs import need
 
-SAY_THE_SAME = {
-    "llvm-objdump -d -r": ("llvm-objdump", "-d", "-r"),
-    "bpftool btf dump": ("bpftool", "btf", "dump", "file"),
-    "bpftool gen skeleton": ("bpftool", "gen", "skeleton"),
+# Tools, with what is compared of their output.
+SAY_THE_SAME: dict[str, tuple[tuple[str, ...], Callable[[str], object]]] = {
+    "llvm-objdump -d -r": (("llvm-objdump", "-d", "-r"), without_labels),
+    "bpftool btf dump": (("bpftool", "-j", "btf", "dump", "file"), types_by_structure),
+    "bpftool gen skeleton": (("bpftool", "gen", "skeleton"), without_file),
 }
 # What they print has what is dropped and renumbered.
-WARN_OF_NOTHING = {
-    "llvm-objdump -t": ("llvm-objdump", "-t"),
-    "llvm-readelf -a": ("llvm-readelf", "-aW"),
-    "readelf -a": ("readelf", "-aW"),
+WARN_OF_NOTHING: dict[str, tuple[tuple[str, ...], Callable[[str], object]]] = {
+    "llvm-objdump -t": (("llvm-objdump", "-t"), lambda output: ""),
+    "llvm-readelf -a": (("llvm-readelf", "-aW"), lambda output: ""),
+    "readelf -a": (("readelf", "-aW"), lambda output: ""),
 }
 DROPPED = (".debug_", ".rel.debug_", ".rel.BTF")
 WRITTEN = ("", ".symtab", ".strtab", ".shstrtab", ".llvm_addrsig", ".BTF", ".BTF.ext")
@@ -31,10 +32,10 @@ WRITTEN = ("", ".symtab", ".strtab", ".shstrtab", ".llvm_addrsig", ".BTF", ".BTF
 @each(all_made())
 @pytest.mark.parametrize("tool", [*SAY_THE_SAME, *WARN_OF_NOTHING])
 def test_tool_says_the_same(tool: str, made: bytes, canon: Canon, folder: Path, tally: Tally) -> None:
-    line = {**SAY_THE_SAME, **WARN_OF_NOTHING}[tool]
+    line, compared = {**SAY_THE_SAME, **WARN_OF_NOTHING}[tool]
     need(line[0])
     one, other = (ask(line, it, folder) for it in (made, canon(made)))
-    texts = [without_labels(without_file(it.output)) if tool in SAY_THE_SAME else "" for it in (one, other)]
+    texts = [compared(it.output) for it in (one, other)]
     is_same = texts[0] == texts[1] and one.status == other.status and set(other.warnings) <= set(one.warnings)
     word = "the same" if tool in SAY_THE_SAME else "no new warning"
     tally[tool].update([f"{word}, {'refused' if one.status else 'accepted'}" if is_same else "other"])

@@ -19,11 +19,8 @@ static struct {
 	unsigned key, value;
 } maps[MAX_DESCRIPTORS];
 
-/* The last BTF that was loaded: CO-RE records have offsets of its strings. */
-static struct {
-	void *bytes;
-	unsigned size;
-} types;
+/* The BTF that was loaded, by its descriptor: programs and maps have numbers of its types. */
+static struct types *types[MAX_DESCRIPTORS];
 
 static const void *pointer(uint64_t address)
 {
@@ -41,25 +38,34 @@ static int new_descriptor(void)
 	return descriptor;
 }
 
-static int load_btf(const union bpf_attr *attr)
+static const struct types *types_of(unsigned descriptor)
 {
-	void *copy = malloc(attr->btf_size);
-
-	if (!copy) {
-		errno = ENOMEM;
-		return -1;
-	}
-	free(types.bytes);
-	memcpy(copy, pointer(attr->btf), attr->btf_size);
-	types.bytes = copy;
-	types.size = attr->btf_size;
-	view_text("btf_load ");
-	view_types_digest(copy, attr->btf_size);
-	return new_descriptor();
+	return descriptor < MAX_DESCRIPTORS ? types[descriptor] : NULL;
 }
 
-/* A map's attributes have no pointers, so that all of them are compared as they are. */
-static int create_map(const union bpf_attr *attr, unsigned size)
+static int load_btf(const union bpf_attr *attr)
+{
+	struct types *loaded = types_read(pointer(attr->btf), attr->btf_size);
+	int descriptor = new_descriptor();
+
+	view_text("btf_load ");
+	view_types_digest(loaded);
+	if (descriptor < 0 || descriptor >= MAX_DESCRIPTORS) {
+		types_free(loaded);
+		return descriptor;
+	}
+	types_free(types[descriptor]);
+	types[descriptor] = loaded;
+	return descriptor;
+}
+
+static void view_digest_of(const char *label, unsigned descriptor, uint32_t number)
+{
+	view_text(" %s #%016llx", label, (unsigned long long)types_digest(types_of(descriptor), number));
+}
+
+/* A map's attributes have no pointers, so that all of them but the numbers of types are compared as they are. */
+static int create_map(union bpf_attr *attr, unsigned size)
 {
 	int descriptor = new_descriptor();
 
@@ -67,6 +73,9 @@ static int create_map(const union bpf_attr *attr, unsigned size)
 	view_characters("name", attr->map_name, strnlen(attr->map_name, sizeof attr->map_name));
 	view_text(" type %u key %u value %u entries %u flags %#x", attr->map_type, attr->key_size, attr->value_size, attr->max_entries,
 		  attr->map_flags);
+	view_digest_of("key", attr->btf_fd, attr->btf_key_type_id);
+	view_digest_of("value", attr->btf_fd, attr->btf_value_type_id);
+	attr->btf_key_type_id = attr->btf_value_type_id = 0;
 	view_bytes("attributes", attr, size);
 	view_text("\n");
 	if (descriptor >= 0 && descriptor < MAX_DESCRIPTORS) {
@@ -104,9 +113,26 @@ static void view_core_records(const union bpf_attr *attr)
 		struct bpf_core_relo core;
 
 		memcpy(&core, record, sizeof core);
-		view_text("core %u type %u kind %u", core.insn_off, core.type_id, core.kind);
-		view_string("access", btf_string(types.bytes, types.size, core.access_str_off));
+		view_text("core %u kind %u", core.insn_off, core.kind);
+		view_digest_of("type", attr->prog_btf_fd, core.type_id);
+		view_string("access", types_string(types_of(attr->prog_btf_fd), core.access_str_off));
 		view_text("\n");
+	}
+}
+
+static void view_functions(const union bpf_attr *attr)
+{
+	const char *record = pointer(attr->func_info);
+	unsigned i;
+
+	view_text(" functions of %u:", attr->func_info_rec_size);
+	for (i = 0; i < attr->func_info_cnt; i++, record += attr->func_info_rec_size) {
+		struct bpf_func_info function;
+
+		memcpy(&function, record, sizeof function);
+		view_text(" %u", function.insn_off);
+		view_digest_of("type", attr->prog_btf_fd, function.type_id);
+		view_bytes("more", record + sizeof function, attr->func_info_rec_size - sizeof function);
 	}
 }
 
@@ -120,8 +146,7 @@ static int load_program(const union bpf_attr *attr)
 	view_characters("name", attr->prog_name, strnlen(attr->prog_name, sizeof attr->prog_name));
 	view_string("license", pointer(attr->license));
 	view_bytes("insns", pointer(attr->insns), (size_t)attr->insn_cnt * sizeof(struct bpf_insn));
-	view_text(" records of %u", attr->func_info_rec_size);
-	view_bytes("functions", pointer(attr->func_info), (size_t)attr->func_info_cnt * attr->func_info_rec_size);
+	view_functions(attr);
 	view_text("\n");
 	view_core_records(attr);
 	return new_descriptor();

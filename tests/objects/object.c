@@ -30,7 +30,7 @@ static void view_program(const struct bpf_program *program)
 	view_text("\n");
 }
 
-static void view_map(struct bpf_map *map)
+static void view_map(struct bpf_map *map, const struct types *types)
 {
 	size_t size = 0;
 	bool has_addresses = bpf_map__type(map) == BPF_MAP_TYPE_STRUCT_OPS; /* in libbpf 1.5 and later, those of its programs */
@@ -40,16 +40,17 @@ static void view_map(struct bpf_map *map)
 	view_string("name", bpf_map__name(map));
 	view_text(" type %d key %u value %u entries %u flags %#x", bpf_map__type(map), bpf_map__key_size(map), bpf_map__value_size(map),
 		  bpf_map__max_entries(map), bpf_map__map_flags(map));
-	view_text(" ifindex %u node %u extra %llu types %u %u internal %d", bpf_map__ifindex(map), bpf_map__numa_node(map),
-		  (unsigned long long)bpf_map__map_extra(map), bpf_map__btf_key_type_id(map), bpf_map__btf_value_type_id(map),
-		  bpf_map__is_internal(map));
+	view_text(" ifindex %u node %u extra %llu internal %d", bpf_map__ifindex(map), bpf_map__numa_node(map),
+		  (unsigned long long)bpf_map__map_extra(map), bpf_map__is_internal(map));
+	view_text(" types #%016llx #%016llx", (unsigned long long)types_digest(types, bpf_map__btf_key_type_id(map)),
+		  (unsigned long long)types_digest(types, bpf_map__btf_value_type_id(map)));
 	view_string("pin", bpf_map__pin_path(map));
 	if (value)
 		view_bytes("initial", value, size);
 	view_text("\n");
 	if (bpf_map__inner_map(map)) {
 		view_text("inner ");
-		view_map(bpf_map__inner_map(map));
+		view_map(bpf_map__inner_map(map), types);
 	}
 }
 
@@ -64,15 +65,17 @@ static void view_programs(const struct bpf_object *object)
 static void view_opened(const struct bpf_object *object)
 {
 	struct bpf_map *map;
-	const void *types;
+	struct types *types;
 	uint32_t size = 0;
+	const void *raw = bpf_object__btf(object) ? btf__raw_data(bpf_object__btf(object), &size) : NULL;
 
+	types = types_read(raw, size);
 	view_text("opened, version %u\n", bpf_object__kversion(object));
 	view_programs(object);
 	bpf_object__for_each_map(map, object)
-		view_map(map);
-	types = bpf_object__btf(object) ? btf__raw_data(bpf_object__btf(object), &size) : NULL;
-	view_types(types, types ? size : 0);
+		view_map(map, types);
+	view_types(types);
+	types_free(types);
 }
 
 /* Maps aren't pinned: that would make files of names that a hostile object chooses. */

@@ -8,6 +8,7 @@ from typing import Optional
 from tests.objects.btf_changes import btf_of, extension_of, set_btf, set_extension
 from tests.objects.btf_file import LINES
 from tests.objects.elf_file import FILE, FUNCTION, LOCAL, NOTE, NOTYPE, OBJECT, PROGBITS, REL, STRTAB, ElfFile, Section
+from tests.objects.type_moves import types_moved
 
 
 def debug_sections(file: ElfFile) -> list[int]:
@@ -165,5 +166,5 @@ def unused_symbol(file: ElfFile, random: Random) -> Optional[str]:
 CHANGES = (
     (2, debug_removed), (2, locals_reordered), (1, labels_removed), (2, names_laid_out), (2, type_strings_laid_out),
     (2, layout_changed), (2, lines_changed), (2, line_texts_changed), (1, note_added),
-    (1, unused_symbol),
+    (1, unused_symbol), (2, types_moved),
 )  # fmt: skip

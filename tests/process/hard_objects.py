@@ -2,8 +2,9 @@
 
 from __future__ import annotations
 
+import itertools
 import struct
-from typing import Iterable, NamedTuple
+from typing import Callable, Iterable, NamedTuple
 
 from docs.canon import BTF_MAGIC, EM_BPF, ET_REL, MAX_FILE, MAX_SECTION_NAME, RELOCATION, SECTION_HEADER, SYMBOL
 from docs.canon import ELF_HEADER, SHF_ALLOC, SHF_EXECINSTR, SHN_UNDEF, SHT_PROGBITS, SHT_REL, SHT_STRTAB, SHT_SYMTAB
@@ -139,14 +140,25 @@ def group(name: int, *words: int) -> bytes:
     return struct.pack(f"<{2 + len(words)}I", name, 1, *words)
 
 
-FUNCTION, LINE = group(1, 0, 0), group(1, 0, 0, 0, 0)
+def parts(names: Iterable[int]) -> dict[str, bytes]:
+    """A function, and its line, in each of the sections with these names."""
+    places = list(names)
+    functions = b"".join(group(it, 0, 0) for it in places)
+    lines = b"".join(group(it, 0, 0, 0, 0) for it in places)
+    return {"functions": struct.pack("<I", 8) + functions, "lines": struct.pack("<I", 16) + lines}
 
 
 def groups() -> bytes:
+    """1.5 million groups of functions, and of lines, for sections named by the ends of strings of the greatest length."""
+    length = MAX_SECTION_NAME
+    strings = b"\0" + b"".join(b"n" * (length - 4) + b"%04x\0" % number for number in range(1_500))
+    return with_types(strings, **parts(it for it in range(1, len(strings)) if 0 < it % (length + 1) <= length - 3))
+
+
+def groups_of_one_section() -> bytes:
     """1.6 million groups of functions, and of lines, that name one section with the greatest length."""
-    count = (MAX_FILE - ROOM) // len(FUNCTION + LINE)
-    parts = {"functions": struct.pack("<I", 8) + FUNCTION * count, "lines": struct.pack("<I", 16) + LINE * count}
-    return with_types(b"\0" + b"n" * MAX_SECTION_NAME + b"\0", **parts)
+    count = (MAX_FILE - ROOM) // len(group(1, 0, 0) + group(1, 0, 0, 0, 0))
+    return with_types(b"\0" + b"n" * MAX_SECTION_NAME + b"\0", **parts([1] * count))
 
 
 def access_strings(length: int) -> bytes:
@@ -176,7 +188,30 @@ def faults(name: bytes = b"xdp") -> bytes:
 
 def faults_with_lines(length: int, lines: int) -> bytes:
     """Sections with a fault each in a line of a source file whose name is long, behind many lines of other sections."""
-    strings = b"\0xdp\0" + b"s" * length + b"\0"
-    one, other = group(1, 0, 0), group(1, 0, 5, 0, 1 << 10)
-    parts = {"functions": struct.pack("<I", 8) + group(2, 0, 0) * lines + one, "lines": struct.pack("<I", 16) + group(2, 0, 0, 0, 0) * lines + other}
-    return with_types(strings, (), [Section(0, flags=CODE, content=FAULT)] * (MOST_SECTIONS - 5), **parts)
+    first = b"\0xdp\0" + b"s" * length + b"\0"
+    strings = first + b"".join(b"%05x\0" % number for number in range(lines))
+    others = parts(range(len(first), len(strings), 6))
+    own = {"functions": group(1, 0, 0), "lines": group(1, 0, 5, 0, 1 << 10)}
+    both = {part: others[part] + own[part] for part in own}
+    return with_types(strings, (), [Section(0, flags=CODE, content=FAULT)] * (MOST_SECTIONS - 5), **both)
+
+
+def type_tags(names: bytes, count: int, first: Callable[[int], int]) -> bytes:
+    """TYPE_TAG of these names in turn. `first` gives the type of each, by its number."""
+    places = [1 + len(it) for it in itertools.accumulate([b""] + [it + b"\0" for it in names.split(b"\0")][:-1])]
+    words = [word for number in range(1, count + 1) for word in (places[number % len(places)], 0x1200_0000, first(number))]
+    return with_types(b"\0" + names + b"\0", words)
+
+
+def variables(count: int, length: int) -> bytes:
+    """VAR with one long name, of an INT."""
+    words = [1, 0x0100_0000, 4, 32, *(word for _ in range(count) for word in (1, 0x0E00_0000, 1, 1))]
+    return with_types(b"\0" + b"v" * length + b"\0", words)
+
+
+def variables_of_ends(count: int) -> bytes:
+    """VAR named by the ends of strings of 60 letters."""
+    names = b"\0" + b"".join(b"_" * 54 + b"%06x\0" % number for number in range(count // 60 + 1))
+    places = [it for it in range(1, len(names)) if 0 < it % 61 <= 55][:count]
+    words = [1, 0x0100_0000, 4, 32, *(word for it in reversed(places) for word in (it, 0x0E00_0000, 1, 1))]
+    return with_types(names, words)

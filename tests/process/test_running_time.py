@@ -208,13 +208,19 @@ OBJECTS = {
     "sections with ends of a string": Object(lambda: hard_objects.long_section_names(1), 0.07),
     "sections with long names": Object(lambda: hard_objects.long_section_names(60), 0.1, b"ResultTooLarge"),
     "a million names of types": Object(hard_objects.names_of_types, 1.0),
-    "1.6 million groups of functions and lines": Object(hard_objects.groups, 1.0),
+    "1.5 million groups of functions and lines": Object(hard_objects.groups, 6.0, b"ResultTooLarge"),
+    "1.6 million groups of one section": Object(hard_objects.groups_of_one_section, 1.0, b"ExtensionGroupTwice"),
     "three million access strings": Object(lambda: hard_objects.access_strings(5_000), 0.5),
     "access strings of 14 MiB": Object(lambda: hard_objects.access_strings(14 * MEGABYTE), 0.1, b"ResultTooLarge"),
     "faults in all sections": Object(hard_objects.faults, 0.1),
     "faults in sections with a long name": Object(lambda: hard_objects.faults(b"\x1b" * 1_023), 0.3, check_times=10),
     "a long name of a source file": Object(lambda: hard_objects.faults_with_lines(200_000, 1_000), 0.1),
     "400,000 lines before those of faults": Object(lambda: hard_objects.faults_with_lines(1_000, 400_000), 0.2),
+    "a chain of 900,000 TYPE_TAG": Object(lambda: hard_objects.type_tags(b"tag", 900_000, lambda number: number - 1), 1.0),
+    "a loop of 900,000 TYPE_TAG": Object(lambda: hard_objects.type_tags(b"tag", 900_000, lambda number: number % 900_000 + 1), 1.0),
+    "900,000 TYPE_TAG of two long names": Object(lambda: hard_objects.type_tags(b"a" * 2_000_000 + b"1\0" + b"a" * 2_000_000 + b"2", 900_000, lambda number: number - 1), 1.0),
+    "400,000 VAR with a name of 8 MB": Object(lambda: hard_objects.variables(400_000, 8_000_000), 1.0),
+    "250,000 VAR named by ends": Object(lambda: hard_objects.variables_of_ends(250_000), 1.0),
 }
 
 

@@ -10,6 +10,7 @@ from docs.canon import (
 )  # fmt: skip
 from tests.objects.elf_file import FUNCTION, ElfFile, Section
 from tools.objects.edited import Edited
+from tools.objects.type_order import canonical_order, mixed_order
 
 GLOBAL = 1 << 4
 R_BPF_64_64, R_BPF_64_32 = 1, 10
@@ -171,10 +172,11 @@ def other_function(it: Edited) -> None:
 
 @dataclass(frozen=True)
 class Accepted:
-    """An accepted file: what is changed, and whether it has the canonical file of what it was made from."""
+    """An accepted file: what is changed, and whether it has the canonical file of what it was made from, or of another one's change."""
 
     change: Callable[[Edited], object]
     is_same: bool = False
+    other: Callable[[Edited], object] = lambda it: None
 
 
 ACCEPTED = {
@@ -204,4 +206,6 @@ ACCEPTED = {
     "call_without_symbol": Accepted(lambda it: it.relocation(b".relraw_tp", "info", R_BPF_64_32)),
     "no_lines": Accepted(no_lines, is_same=True),
     "other_function": Accepted(other_function),
+    "type_order": Accepted(canonical_order),
+    "mixed_types": Accepted(mixed_order, is_same=True, other=canonical_order),
 }
