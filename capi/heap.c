@@ -1,6 +1,7 @@
 /*
- * The heap of the proved calls over malloc, for processors that Rattle's kit has no object of it for.
- * meson.build compiles it for these. It is tested and not proved.
+ * Rattle's heap over malloc, of the commands of a release (packaging/folders.py), and of the C
+ * library on processors for which the kit has no object of it (meson.build). It is tested and not
+ * proved.
  */
 #include <stdint.h>
 #include <stdlib.h>
