@@ -89,7 +89,8 @@ def test_tests_of_commands(used, tmp_path):
         (tmp_path / name).write_text(f'#!/bin/sh\nexec {shlex.join(map(str, [*used.runner, used.folder / "bin" / name]))} "$@"\n')
         (tmp_path / name).chmod(0o755)
     options = [f"--program={tmp_path}/bpfcanon", f"--object-program={tmp_path}/bpfcanon-object", "-k", " and ".join(f"not {it}" for it in left_out)]
-    assert re.search(r"\d+ passed", output(sys.executable, "-m", "pytest", "-q", *(f"tests/{it}" for it in TESTS), *options, cwd=TOP).decode())
+    line = [sys.executable, "-m", "pytest", "-q", *(f"tests/{it}" for it in TESTS), *options]
+    assert re.search(r"\d+ passed", output(*line, cwd=TOP, timeout=900).decode())
 
 
 def test_linked(used):

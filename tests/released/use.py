@@ -31,7 +31,7 @@ PYTHON = "import sys; from bpfcanon.objects import key; print(key(sys.stdin.buff
 
 def output(*words, given=None, env=None, **how):
     """What a program prints on the bytes of a file; it has to succeed."""
-    how |= {"env": os.environ | (env or {}), "input": given.read_bytes() if given else b"", "stdout": subprocess.PIPE, "timeout": 300}
+    how = {"timeout": 300} | how | {"env": os.environ | (env or {}), "input": given.read_bytes() if given else b"", "stdout": subprocess.PIPE}
     return subprocess.run([*map(str, words)], check=True, **how).stdout
 
 
