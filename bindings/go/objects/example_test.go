@@ -39,7 +39,7 @@ func ExampleKey() {
 		log.Fatal(err)
 	}
 	fmt.Printf("%x\n", key)
-	// Output: 1da1577a899346493beb3c14ae1f603919f1b6733049eaf48e6276c3fd6f1f9e
+	// Output: c917fcd49ec0d1154cce27517cf3e3ecfd7e22b1a542dfae09abddc1d2b0e802
 }
 
 // A file that is refused has a cause and an offset.
