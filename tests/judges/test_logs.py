@@ -39,8 +39,8 @@ def by_cilium(content: bytes, folder: Path) -> str:
 
 
 def lasting(log: str) -> str:
-    """A log without the addresses of maps and the time."""
-    return re.sub(r"\n\s*verification time .*|(?<= \(18\) r\d = )0xffff\w+", "", log)
+    """A log without the addresses of maps, the time, and the numbers of types in CO-RE relocations, which canonical files change."""
+    return re.sub(r"\n\s*verification time .*|(?<= \(18\) r\d = )0xffff\w+|(?<=_off> )\[\d+\] ", "", log)
 
 
 def with_lines(original: bytes, log: str) -> str:
