@@ -1,7 +1,9 @@
 -- Where the records of .BTF are in the file.
-use Rattle.std.proofs.Common.{◌≡◌, ℕ, zero, suc, ◌+◌, ◌-◌, ◌*◌, ◌<◌, ◌≤◌, Some, List, [], ◌∷◌, length, get_or, take, refl, length-append, add-one, arith}
-use Rattle.std.specs.{Prelude.slice_get, List.concat}
+use Rattle.std.proofs.Common.{◌≡◌, ℕ, zero, suc, ◌+◌, ◌-◌, ◌*◌, ◌^◌, ◌<◌, ◌≤◌, Some, List, [], ◌∷◌, length, get_or, take, refl, length-append, add-one, arith}
+use Rattle.std.specs.{Prelude.slice_get, List.All, List.concat}
 use Rattle.std.proofs.lemmas.Option.{slice_get_within, get_or_from_slice_get}
+use Rattle.std.proofs.lemmas.List.Elements.{All-head, All-tail}
+use Rattle.btf_raw.specs.Frames.{IsFrame}
 use Rattle.btf_types.specs.{Denotes.HoldsSections, Sections.SectionWords}
 use Rattle.btf_types.proofs.CheckLemmas.SectionSteps.{length-section}
 use Rattle.bpf_object.specs.{Types.record_offset, Types.record_rules, Types.rules_of}
@@ -41,3 +43,11 @@ same_rules first s k strings pos f of at is = rw (of, at, is) refl
 -- the records aren't larger than the types of a file may be
 pub few_words : (b : List ℕ) (s : SectionWords) → HoldsSections b s → 4 * length (concat s.frames) ≤ 33554432
 few_words b s held = omega (arith, length-section s.order s.frames, held.cut.types_fit)
+
+words_of_records : (fs : List (List ℕ)) → All IsFrame fs → 3 * length fs ≤ length (concat fs)
+words_of_records [] each = omega arith
+words_of_records (f ∷ fs) each =
+    omega (arith, (All-head IsFrame f fs each).size, length-append f (concat fs), words_of_records fs (All-tail IsFrame f fs each))
+
+pub few_records : (b : List ℕ) (s : SectionWords) → HoldsSections b s → length s.frames < 2 ^ 24
+few_records b s held = omega (arith, words_of_records s.frames held.each, few_words b s held)

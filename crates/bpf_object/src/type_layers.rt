@@ -1,6 +1,6 @@
 //! The layers of TYPE_TAG: how many of them follow each other from a type on.
 
-ghost use Rattle.std.specs.Prelude.{◌≡◌, ◌+◌, ◌^◌, ◌<◌, ◌≤◌, ◌==◌, true, false, length, slice_index, MatchOption};
+ghost use Rattle.std.specs.Prelude.{◌≡◌, ℕ, ◌+◌, ◌*◌, ◌^◌, ◌<◌, ◌≤◌, ◌==◌, min, false, length, slice_index, MatchOption, IfOk};
 ghost use Rattle.btf_raw.specs.Frames.{IsFrame, kind};
 ghost use Rattle.btf_raw.specs.KindNumbers.{TYPE_TAG as spec_tag};
 ghost use Rattle.bpf_object.specs.TypeOrder.{frame_of};
@@ -9,10 +9,6 @@ ghost use Rattle.bpf_object.specs.private.TypeSteps as spec;
 use btf_raw::TYPE_TAG;
 use btf_types::{FileSections, Record};
 use std::alloc::{AllocError, Allocator};
-
-/// More rounds than a table of 15 MiB needs: each record has at least 12 bytes, and each round
-/// doubles the steps.
-const ROUNDS: u32 = 21;
 
 /// The record with a number from 1 on.
 #[tactic(auto, using(crate::proofs::LayerLemmas::frame_read))]
@@ -51,91 +47,128 @@ pub(crate) fn at(numbers: &[u32], index: u32) -> u32
     }
 }
 
-/// The layer of a type, by the layers of others.
-fn next_layer(sections: &FileSections<'_>, layers: &[u32], id: u32) -> u32
-    requires { length sections.now.frames + 1 < 2 ^ 32 }
-    ensures { result ≡ spec.next_layer sections.now layers.now id }
+/// The TYPE_TAG from a type on, as far as they have been counted.
+#[derive(Clone, Copy)]
+struct Walk {
+    /// How many they are; at most one more than there are records is counted.
+    steps: u32,
+    /// The type that they lead to, from which it goes on. It is 0 where they end.
+    to: u32,
+}
+
+/// The first step from a type.
+#[tactic(auto, using(crate::proofs::LayerLemmas::first_steps))]
+fn first_walk(sections: &FileSections<'_>, id: u32) -> Walk
+    ensures { spec.IsWalk sections.now 1 id result }
 {
-    let most = sections.count();
     match tag_type(sections, id) {
-        None => 0,
-        Some(to) => at(layers, to).min(most) + 1,
+        Some(to) => Walk { steps: 1, to },
+        None => Walk { steps: 0, to: 0 },
     }
 }
 
-/// The steps of a walk over TYPE_TAG: for each type how many there are up to another, and which that
-/// is. It is 0 where they end.
-#[derive(Drop)]
-struct Walk<A: Allocator> {
-    steps: Vec<u32, A>,
-    to: Vec<u32, A>,
-}
-
-/// A walk of one step from each type.
-fn first_steps<A: Allocator + Copy>(
+/// The first steps from all types.
+fn first_walks<A: Allocator>(
     alloc: A,
     sections: &FileSections<'_>,
-) -> Result<Walk<A>, AllocError> {
-    let mut steps = Vec::with_capacity(alloc, sections.count() as usize)?;
-    let mut to = Vec::with_capacity(alloc, sections.count() as usize)?;
-    steps.push(0)?;
-    to.push(0)?;
-    for index in 0..sections.count() {
-        let tag = tag_type(sections, index + 1);
-        steps.push(u32::from(tag.is_some()))?;
-        to.push(tag.unwrap_or(0))?;
+) -> Result<Vec<Walk, A>, AllocError>
+    requires { length sections.now.frames < 2 ^ 31 }
+    ensures { IfOk result (λ walks. spec.AreWalks sections.now 1 walks.items) }
+{
+    let count = sections.count() + 1;
+    let mut walks = Vec::with_capacity(alloc, count as usize)?;
+    for id in 0..count {
+        walks.push(first_walk(sections, id))?;
     }
-    Ok(Walk { steps, to })
+    Ok(walks)
 }
 
-/// Goes on from where each walk has come to, and returns whether one goes on.
-fn double_steps<A: Allocator>(walk: &mut Walk<A>) -> bool {
+/// The walk from a type.
+fn walk_at(walks: &[Walk], id: u32) -> Walk
+    ensures { result ≡ spec.walk_at walks.now id }
+{
+    match walks.get(id as usize) {
+        Some(walk) => *walk,
+        None => Walk { steps: 0, to: 0 },
+    }
+}
+
+/// A walk, and then the one from where it has come to. At most so many steps are counted.
+fn joined(first: Walk, second: Walk, most: u32) -> Walk
+    ensures steps { result.steps ≡ min (first.steps + second.steps) most }
+    ensures to { result.to ≡ second.to }
+{
+    Walk {
+        steps: first.steps.saturating_add(second.steps).min(most),
+        to: second.to,
+    }
+}
+
+/// Goes on from where each walk has come to, which doubles its steps at least, and returns whether
+/// one has gone on.
+fn double_walks(sections: &FileSections<'_>, walks: &mut [Walk]) -> bool
+    requires { length sections.now.frames < 2 ^ 31 }
+    ensures walks { (least : ℕ) → spec.AreWalks sections.now least walks.old
+        → spec.AreWalks sections.now (least * 2) walks.new }
+    ensures ended { result ≡ false → (id : ℕ) → (spec.walk_at walks.new id).to ≡ 0 }
+{
+    let most = sections.count() + 1;
     let mut goes_on = false;
-    for id in 0..walk.steps.len().min(walk.to.len()) {
-        let next = walk.to[id];
-        if next != 0 {
-            walk.steps[id] = walk.steps[id].saturating_add(at(&walk.steps, next));
-            walk.to[id] = at(&walk.to, next);
+    for id in 0..walks.len() {
+        let walk = walks[id];
+        if walk.to != 0 {
+            walks[id] = joined(walk, walk_at(walks, walk.to), most);
             goes_on = true;
         }
     }
     goes_on
 }
 
+/// Goes on until each walk has ended, or has more steps than there are records.
+fn end_walks(sections: &FileSections<'_>, walks: &mut [Walk])
+    requires few { length sections.now.frames < 2 ^ 31 }
+    requires walks { spec.AreWalks sections.now 1 walks.old }
+    ensures { spec.AreWalks sections.now (length sections.now.frames + 1) walks.new }
+{
+    let mut least: u32 = 1;
+    while least <= sections.count() {
+        if !double_walks(sections, walks) {
+            return;
+        }
+        least *= 2;
+    }
+}
+
+/// The steps of walks.
+fn steps_of<A: Allocator>(alloc: A, walks: &[Walk]) -> Result<Vec<u32, A>, AllocError>
+    ensures { IfOk result (λ steps. steps.items ≡ spec.steps_of walks.now) }
+{
+    walks.iter().map(|walk| walk.steps).collect(alloc)
+}
+
+/// The layers of all types, by the first steps from them.
+fn layers_of<A: Allocator>(
+    alloc: A,
+    sections: &FileSections<'_>,
+    walks: &mut [Walk],
+) -> Result<Vec<u32, A>, AllocError>
+    requires few { length sections.now.frames < 2 ^ 31 }
+    requires walks { spec.AreWalks sections.now 1 walks.old }
+    ensures { IfOk result (λ layers. spec.AreLayers sections.now layers.items) }
+{
+    end_walks(sections, walks);
+    steps_of(alloc, walks)
+}
+
 /// The layers of all types, from void on: 0 if a type isn't TYPE_TAG, and one more than there are
-/// types if the TYPE_TAG from there on never end.
+/// records if the TYPE_TAG from there on never end.
 pub(crate) fn find_layers<A: Allocator + Copy>(
     alloc: A,
     sections: &FileSections<'_>,
-) -> Result<Vec<u32, A>, AllocError> {
-    let mut walk = first_steps(alloc, sections)?;
-    for _ in 0..ROUNDS {
-        if !double_steps(&mut walk) {
-            break;
-        }
-    }
-    let most = sections.count();
-    let mut layers = Vec::with_capacity(alloc, walk.steps.len())?;
-    for id in 0..walk.steps.len() {
-        let ends = walk.to.get(id).is_none_or(|to| *to == 0);
-        let layer = if ends { walk.steps[id] } else { u32::MAX };
-        layers.push(layer.min(most.saturating_add(1)))?;
-    }
-    Ok(layers)
-}
-
-/// Whether these are the layers of all types.
-#[tactic(auto, using(crate::proofs::LayerLemmas::layers_found))]
-pub(crate) fn are_layers(sections: &FileSections<'_>, layers: &[u32]) -> bool
-    ensures { result ≡ true → spec.AreLayers sections.now layers.now }
+) -> Result<Vec<u32, A>, AllocError>
+    requires { length sections.now.frames < 2 ^ 31 }
+    ensures { IfOk result (λ layers. spec.AreLayers sections.now layers.items) }
 {
-    if sections.count() == u32::MAX || layers.len() != sections.count() as usize + 1 {
-        return false;
-    }
-    for index in 0..sections.count() {
-        if at(layers, index + 1) != next_layer(sections, layers, index + 1) {
-            return false;
-        }
-    }
-    at(layers, 0) == 0
+    let mut walks = first_walks(alloc, sections)?;
+    layers_of(alloc, sections, &mut walks)
 }

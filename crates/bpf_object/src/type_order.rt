@@ -7,20 +7,17 @@
 //! What comes out is compared with the definition, neighbour by neighbour. So the proof is about
 //! this comparison, and not about how the order was found.
 
-ghost use Rattle.std.specs.Prelude.{◌≡◌, ◌<◌, true, length, IfOk, IfSome};
+ghost use Rattle.std.specs.Prelude.{◌≡◌, ◌^◌, ◌<◌, true, length, IfOk, IfSome};
 ghost use Rattle.std.specs.{List.range_with_len, List.Sorted.IsPermutation};
 ghost use Rattle.bpf_elf.specs.Names.{is_closed};
 ghost use Rattle.bpf_object.specs.private.TypeSteps as spec;
 
 use crate::name_ranks::NameRanks;
 use crate::type_keys::{NO_KEY, RecordKey, is_before, record_key};
-use crate::type_layers::{are_layers, at, find_layers};
+use crate::type_layers::{at, find_layers};
 use btf_raw::{FWD, TYPE_TAG, VAR};
 use btf_types::FileSections;
 use std::alloc::{AllocError, Allocator};
-
-/// More records than a table of 15 MiB has.
-const MOST: u32 = 1 << 24;
 
 /// The order of the records, and their new numbers.
 #[derive(Drop)]
@@ -229,14 +226,12 @@ pub(crate) fn type_order<A: Allocator + Copy>(
     alloc: A,
     sections: &FileSections<'_>,
 ) -> Result<Option<TypeOrder<A>>, AllocError>
-    requires { is_closed sections.now.strings ≡ true }
+    requires few { length sections.now.frames < 2 ^ 24 }
+    requires closed { is_closed sections.now.strings ≡ true }
     ensures { IfOk result (λ found. IfSome found (λ order.
         spec.AreNumbered sections.now order.ids.items order.numbers.items)) }
 {
     let layers = find_layers(alloc, sections)?;
-    if sections.count() > MOST || !are_layers(sections, &layers) {
-        return Ok(None);
-    }
     let offsets = name_offsets(alloc, sections)?;
     let names = NameRanks::new(alloc, sections.strings(), &offsets)?;
     let order = find_order(alloc, sections, &layers, &names)?;

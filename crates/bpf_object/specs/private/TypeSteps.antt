@@ -1,12 +1,12 @@
 -- The order of the records of .BTF as it is computed, by old numbers.
-use Rattle.std.specs.Prelude.{◌≡◌, ℕ, suc, ◌+◌, ◌-◌, ◌^◌, ◌<◌, ◌≤◌, ◌==◌, min, true, List, length, map, slice_index, slice_index_or, if◌then◌else◌}
+use Rattle.std.specs.Prelude.{◌≡◌, ℕ, ◌+◌, ◌-◌, ◌^◌, ◌<◌, ◌≤◌, ◌==◌, min, true, List, length, map, slice_index, slice_index_or, if◌then◌else◌}
 use Rattle.std.specs.{List.All, Ordering.nat_cmp, Ordering.ordering_then}
 use Rattle.std.specs.declared.cmp.Ordering.TheVariants.{Less}
 use Rattle.bpf_elf.specs.Names.{is_closed, string_at}
 use Rattle.btf_raw.specs.KindNumbers.{FWD, VAR, DATASEC, TYPE_TAG}
 use Rattle.btf_raw.specs.Frames.{third_word, kind}
 use Rattle.btf_types.specs.Sections.{SectionWords}
-use Rattle.bpf_object.specs.declared.type_keys.RecordKey.{RecordKey}
+use Rattle.bpf_object.specs.declared.{type_keys.RecordKey.RecordKey, type_layers.Walk.Walk}
 use Rattle.bpf_object.specs.TypeOrder.{frame_of, layer, group, sorted_name, sorted_flag, sorted_type, compare_types, new_number, IsOrder, renewed_frame}
 use Rattle.bpf_object.specs.private.NameRanks.{RankedNames, IsRank}
 
@@ -15,10 +15,20 @@ pub record IsTagOf (s : SectionWords) (id t : ℕ) : Type 0 where
   pub tag : (kind (frame_of s id) == TYPE_TAG) ≡ true
   pub is : t ≡ third_word (frame_of s id)
 
--- the layer of a type by the layers of others
-abbrev pub next_layer : SectionWords → List ℕ → ℕ → ℕ
-next_layer s layers id =
-    if kind (frame_of s id) == TYPE_TAG then suc (min (slice_index layers (third_word (frame_of s id))) (length s.frames)) else 0
+-- the TYPE_TAG that have been counted from a type on, and where they lead; if they go on from there, they are at least so many
+pub record IsWalk (s : SectionWords) (least id : ℕ) (walk : Walk) : Type 0 where
+  pub most : walk.steps ≤ length s.frames + 1
+  pub leads : layer s id ≡ min (walk.steps + layer s walk.to) (length s.frames + 1)
+  pub goes_on : 0 < walk.to → min least (length s.frames + 1) ≤ walk.steps
+
+abbrev pub walk_at : List Walk → ℕ → Walk
+walk_at walks id = slice_index_or walks id (record { steps = 0; to = 0 })
+
+abbrev pub AreWalks : SectionWords → ℕ → List Walk → Type 0
+AreWalks s least walks = (id : ℕ) → IsWalk s least id (walk_at walks id)
+
+abbrev pub steps_of : List Walk → List ℕ
+steps_of walks = map (λ walk. walk.steps) walks
 
 abbrev pub AreLayers : SectionWords → List ℕ → Type 0
 AreLayers s layers = (id : ℕ) → id ≤ length s.frames → slice_index layers id ≡ layer s id

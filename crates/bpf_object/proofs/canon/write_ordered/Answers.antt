@@ -1,7 +1,12 @@
--- The order is that of the records.
+-- There are few records, and the order is theirs.
 use Rattle.std.proofs.Common.{List, ℕ, sym, subst, ◌∙◌}
 use Rattle.bpf_object.specs.private.TypeSteps.{AreNumbered}
+use Rattle.bpf_object.specs.Denotes.{types_of}
+use Rattle.bpf_object.proofs.TypesLemmas.{few_records}
 use Rattle.bpf_object.proofs.canon.write_ordered.Goals as goal
+
+pub type_order-requires-clause-few : goal.type_order-requires-clause-few
+type_order-requires-clause-few g c = few_records (types_of c.args.elf.now).bytes c.args.sections.now c.requires.keeps.types.sections
 
 pub write_in_order-requires-clause-order : goal.write_in_order-requires-clause-order
 write_in_order-requires-clause-order g c =
