@@ -88,3 +88,5 @@ pub mod RewrittenValid
 pub mod OrderedFiles
 pub mod SourceLemmas
 pub mod NameEnds
+pub mod NameLists
+pub mod NameOffsets

@@ -2,12 +2,10 @@
 use Rattle.std.proofs.Common.{◌≡◌, ℕ, zero, suc, ◌-◌, ◌≤◌, ◌==◌, min, Bool, true, List, [], ◌∷◌, ◌++◌, length, take, drop, inl, inr, refl, sym, ap, ◌∙◌, arith}
 use Rattle.std.specs.Prelude.{not}
 use Rattle.std.specs.{Cmp.Lexicographic.slice_cmp, List.All, List.take_while, List.prefix_len}
-use Rattle.std.specs.List.Sorted.{IsPermutation}
 use Rattle.std.specs.Ordering.{nat_cmp}
 use Rattle.std.specs.declared.cmp.Ordering.{Ordering}
 use Rattle.std.proofs.lemmas.Bool.{cases_Bool, cases_lt}
 use Rattle.std.proofs.lemmas.List.{length-drop, drop_all, drop-drop, Sums.take_while-cons}
-use Rattle.std.proofs.lemmas.List.Sorted.{All-permutation}
 use Rattle.std.proofs.lemmas.List.Elements.{All-push}
 use Rattle.bpf_elf.specs.Names.{is_closed, string_at}
 use Rattle.bpf_object.specs.declared.name_ranks.NameAt.{NameAt}
@@ -65,7 +63,7 @@ module _ (strings : List ℕ) where
       record { ordered = to; size = omega (arith, here, short, size, from, to) }
 
   -- the bytes of a name
-  bytes_are : (name : NameAt) → HasEnd strings name → bytes_in strings name ≡ string_at strings name.start
+  pub bytes_are : (name : NameAt) → HasEnd strings name → bytes_in strings name ≡ string_at strings name.start
   bytes_are name ends =
       let low = ends.ordered in
       let size = ends.size in
@@ -93,9 +91,6 @@ module _ (strings : List ℕ) where
 
   pub none_at_start : is_closed strings ≡ true → HasEnd strings (record { start = 0; end = 0 })
   none_at_start closed = record { ordered = omega arith; size = ap length (first_empty strings closed) }
-
-  pub all_moved : (xs ys : List NameAt) → IsPermutation xs ys → All (HasEnd strings) xs → All (HasEnd strings) ys
-  all_moved xs ys are all = All-permutation (HasEnd strings) xs ys are all
 
   pub one_more : (xs : List NameAt) (x : NameAt) → All (HasEnd strings) xs → HasEnd strings x → All (HasEnd strings) (xs ++ x ∷ [])
   one_more xs x all one = All-push (HasEnd strings) xs x all one

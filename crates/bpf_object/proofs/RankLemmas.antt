@@ -1,22 +1,22 @@
--- The ranks of names, when one more is noted.
-use Rattle.std.proofs.Common.{◌≡◌, ℕ, zero, suc, ◌+◌, ◌-◌, ◌<◌, ◌≤◌, true, List, [], ◌∷◌, ◌++◌, length, get_or, map, inl, inr, refl, sym, ap, subst, ◌∙◌, length-append, arith}
+-- The ranks of names, when one more is noted, and which are noted in the end.
+use Rattle.std.proofs.Common.{◌≡◌, ◌≢◌, ℕ, zero, suc, ◌+◌, ◌-◌, ◌^◌, ◌<◌, ◌≤◌, true, List, [], ◌∷◌, ◌++◌, length, get_or, map, below_more, inl, inr, refl, sym, ap, subst, ◌∙◌, length-append, arith}
 use Rattle.std.specs.Prelude.{slice_index, replicate, nat_lt, ◌==◌, ◌&&◌}
-use Rattle.std.specs.{Cmp.Lexicographic.slice_cmp}
+use Rattle.std.specs.{Cmp.Lexicographic.slice_cmp, List.All}
 use Rattle.std.specs.List.Sorted.{IsStrictlySortedBy}
-use Rattle.std.specs.Ordering.{nat_cmp}
-use Rattle.std.specs.declared.cmp.Ordering.{TheVariants.Less, TheVariants.Equal}
+use Rattle.std.specs.Ordering.{nat_cmp, ordering_then, ordering_index}
+use Rattle.std.specs.declared.cmp.Ordering.{Ordering, TheVariants.Less, TheVariants.Equal, TheVariants.Greater}
 use Rattle.std.proofs.Math.ListN.{set, length-set, get_or-append}
 use Rattle.std.proofs.Math.Seq.{get_or-append_seam}
-use Rattle.std.proofs.lemmas.Bool.{cases_eq, and_parts, ltb-true}
+use Rattle.std.proofs.lemmas.Bool.{cases_eq, cases_lt, and_parts, ltb-true}
 use Rattle.std.proofs.lemmas.Cmp.{nat_list_cmp_total}
-use Rattle.std.proofs.lemmas.List.{get_or-set_same, get_or-set_other, get_or-map, length-map, map-append, length-replicate}
-use Rattle.std.proofs.lemmas.List.Elements.{All-nil, All-push}
+use Rattle.std.proofs.lemmas.List.{get_or-set_same, get_or-set_other, get_or-map, get_or_default, get_or_past, length-map, map-append, length-replicate}
+use Rattle.std.proofs.lemmas.List.Elements.{All-nil, All-push, All-contains, All-contains_itself}
 use Rattle.std.proofs.lemmas.Map.Keys.{Less-from_sorted, sorted_from_all_adjacent}
 use Rattle.std.proofs.lemmas.Map.Lookups.{exact_bytes}
 use Rattle.bpf_elf.specs.Names.{is_closed, string_at}
-use Rattle.bpf_object.specs.private.NameRanks.{name_key, last_name, HasEnd, HasRank, AreRanks}
+use Rattle.bpf_object.specs.private.NameRanks.{text_key, name_key, last_name, starts, HasEnd, AreNames, Rise, HasRank, AreRanks, RankedNames, OfEmpty, Notes, AreNoted}
 use Rattle.bpf_object.specs.declared.name_ranks.NameAt.{NameAt}
-use Rattle.bpf_object.proofs.NameEnds.{none_at_start}
+use Rattle.bpf_object.proofs.{KeyLemmas.first_empty, NameEnds.none_at_start, OrderLayers.less}
 
 abbrev Keys : List (List ℕ) → Type 0
 Keys ks = IsStrictlySortedBy (slice_cmp nat_cmp) ks
@@ -151,3 +151,140 @@ module _ (strings : List ℕ) (closed : is_closed strings ≡ true) where
   pub ranks_of_empty : (ranks names : List ℕ) → ranks ≡ replicate (length strings) 0 → names ≡ replicate 1 0 → AreRanks strings (set ranks 0 1) names (record { start = 0; end = 0 })
   ranks_of_empty ranks names first second =
       subst (λ (r : List ℕ). AreRanks strings (set r 0 1) names (record { start = 0; end = 0 })) (sym first) (subst (λ (m : List ℕ). AreRanks strings (set fresh 0 1) m (record { start = 0; end = 0 })) (sym second) ranks_first)
+
+pub empty_first : (strings ranks names : List ℕ) → is_closed strings ≡ true → ranks ≡ replicate (length strings) 0 → names ≡ replicate 1 0
+    → OfEmpty strings (record { strings = strings; ranks = set ranks 0 1; names = names; last = record { start = 0; end = 0 } })
+empty_first strings ranks names closed first second =
+    let size : length ranks ≡ length strings = ap length first ∙ fresh_length strings closed in
+    record {
+      strings_are = refl;
+      start = refl;
+      known = omega (arith, get_or-set_same ranks 0 1 0 (omega (arith, size, some strings closed)));
+      one = ap length second;
+    }
+
+pub ruleset first_ranks = (ranks_of_empty, empty_first)
+
+-- ---- which offsets are noted
+
+noted_set : (ranks : List ℕ) (off rank other : ℕ) → 0 < rank → 0 < slice_index ranks other → 0 < slice_index (set ranks off rank) other
+noted_set ranks off rank other some known = elim (cases_eq other off) [
+  | inr apart ↦ omega (arith, known, get_or-set_other ranks off other rank 0 apart)
+  | inl e ↦ elim (cases_lt other (length ranks)) [
+    | inl there ↦ omega (arith, some, ap (slice_index (set ranks off rank)) e ∙ get_or-set_same ranks off rank 0 (omega (arith, there, e)))
+    | inr past ↦ absurd (omega (arith, known, get_or_past ranks other 0 past))
+  ]
+]
+
+pub push_notes : (old : RankedNames) (name : NameAt) (names : List ℕ) (rank : ℕ) → length old.ranks ≡ length old.strings → name.start < length old.strings
+    → length names ≡ length old.names + 1 → rank ≡ length names
+    → Notes old (record { strings = old.strings; ranks = set old.ranks name.start rank; names = names; last = name }) name.start
+push_notes old name names rank whole there size is = record {
+  known = omega (arith, get_or-set_same old.ranks name.start rank 0 (omega (arith, there, whole)), size, is);
+  keeps = λ other known. noted_set old.ranks name.start rank other (omega (arith, size, is)) known;
+  last = refl;
+  few = omega (arith, size);
+}
+
+pub repeat_notes : (old : RankedNames) (off rank : ℕ) → length old.ranks ≡ length old.strings → off < length old.strings → 0 < length old.names → rank ≡ length old.names
+    → slice_cmp nat_cmp (name_key old.strings old.last.start) (name_key old.strings off) ≡ Equal
+    → Notes old (record { strings = old.strings; ranks = set old.ranks off rank; names = old.names; last = old.last }) off
+repeat_notes old off rank whole there some is ties = record {
+  known = omega (arith, get_or-set_same old.ranks off rank 0 (omega (arith, there, whole)), some, is);
+  keeps = λ other known. noted_set old.ranks off rank other (omega (arith, some, is)) known;
+  last = exact_bytes (name_key old.strings old.last.start) (name_key old.strings off) ties;
+  few = omega arith;
+}
+
+-- the first k names are noted, and none of the others is less than the last of them
+pub record AreUpTo (strings : List ℕ) (names : List NameAt) (k : ℕ) (r : RankedNames) : Type 0 where
+  pub strings_are : r.strings ≡ strings
+  pub empty : 0 < slice_index r.ranks 0
+  pub noted : (i : ℕ) → i < k → 0 < slice_index r.ranks (slice_index (starts names) i)
+  pub rest : (i : ℕ) → k ≤ i → i < length names
+      → slice_cmp nat_cmp (name_key strings r.last.start) (name_key strings (slice_index (starts names) i)) ≢ Greater
+  pub few : length r.names ≤ k + 1
+
+least : (a : List ℕ) → slice_cmp nat_cmp (text_key []) (text_key a) ≢ Greater
+least [] greater = omega (arith, ap ordering_index greater)
+least (x ∷ a) greater =
+    let is : slice_cmp nat_cmp (text_key []) (text_key (x ∷ a)) ≡ Less =
+    ap (λ (o : Ordering). ordering_then o (slice_cmp nat_cmp [] (x ∷ a))) (less 0 (suc (length a)) (omega arith)) in
+    omega (arith, ap ordering_index (sym is ∙ greater))
+
+abbrev pub no_name : NameAt
+no_name = record { start = 0; end = 0 }
+
+start_at : (names : List NameAt) (k : ℕ) → slice_index (starts names) k ≡ (get_or names k no_name).start
+start_at [] k = refl
+start_at (name ∷ names) zero = refl
+start_at (name ∷ names) (suc k) = start_at names k
+
+-- a name that may be noted next
+pub record IsNext (r : RankedNames) (name : NameAt) : Type 0 where
+  pub there : name.start < length r.strings
+  pub few : length r.names + 1 < 2 ^ 32
+  pub end : HasEnd r.strings name
+  pub not_less : slice_cmp nat_cmp (name_key r.strings r.last.start) (name_key r.strings name.start) ≢ Greater
+
+module _ (strings : List ℕ) (names : List NameAt) where
+  pub up_to_none : (r : RankedNames) → is_closed strings ≡ true → OfEmpty strings r → AreUpTo strings names 0 r
+  up_to_none r closed first =
+      let none : name_key strings r.last.start ≡ text_key [] = ap text_key (ap (string_at strings) first.start ∙ first_empty strings closed) in
+      let one = first.one in
+      record {
+        strings_are = first.strings_are;
+        empty = first.known;
+        noted = λ i lt. absurd (omega (arith, lt));
+        rest = λ i _ there.
+            subst (λ (a : List ℕ). slice_cmp nat_cmp a (name_key strings (slice_index (starts names) i)) ≢ Greater) (sym none)
+            (least (string_at strings (slice_index (starts names) i)));
+        few = omega (arith, one);
+      }
+
+  pub up_to_more : (k : ℕ) (old new : RankedNames) → Rise strings names → k < length names → AreUpTo strings names k old → new.strings ≡ old.strings
+      → Notes old new (get_or names k no_name).start → AreUpTo strings names (k + 1) new
+  up_to_more k old new rise there are same notes =
+      let off = slice_index (starts names) k in
+      let noted : Notes old new off = subst (λ (o : ℕ). Notes old new o) (sym (start_at names k)) notes in
+      let whole = same ∙ are.strings_are in
+      let last : name_key strings new.last.start ≡ name_key strings off = subst (λ (s : List ℕ). name_key s new.last.start ≡ name_key s off) whole noted.last in
+      let before = are.few in
+      let now = noted.few in
+      record {
+        strings_are = whole;
+        empty = noted.keeps 0 are.empty;
+        noted = below_more _ _ (λ i lt. noted.keeps (slice_index (starts names) i) (are.noted i lt)) noted.known;
+        rest = λ i from within.
+            subst (λ (a : List ℕ). slice_cmp nat_cmp a (name_key strings (slice_index (starts names) i)) ≢ Greater) (sym last)
+            (rise k i (omega (arith, from)) within);
+        few = omega (arith, before, now);
+      }
+
+  module _ (offsets : List ℕ) (are : AreNames strings offsets names) (r : RankedNames) (k : ℕ) (up : AreUpTo strings names k r) where
+    pub next_name : All (λ off. off < length strings) offsets → length offsets + 1 < 2 ^ 32 → k < length names → IsNext r (get_or names k no_name)
+    next_name inside short within =
+        let size = length-map names (λ (n : NameAt). n.start) in
+        let here = start_at names k in
+        let found = are.same.adds_none (slice_index (starts names) k) (All-contains_itself (starts names) k 0 (omega (arith, within, size))) in
+        let there = All-contains (λ (off : ℕ). off < length strings) offsets (slice_index (starts names) k) inside found in
+        let few = are.same.few in
+        let before = up.few in
+        record {
+          there = omega (arith, there, here, ap length up.strings_are);
+          few = omega (arith, short, within, few, before, size);
+          end = subst (λ (s : List ℕ). HasEnd s (get_or names k no_name)) (sym up.strings_are) (are.ends k no_name within);
+          not_less =
+              subst (λ (s : List ℕ). slice_cmp nat_cmp (name_key s r.last.start) (name_key s (get_or names k no_name).start) ≢ Greater) (sym up.strings_are)
+              (subst (λ (off : ℕ). slice_cmp nat_cmp (name_key strings r.last.start) (name_key strings off) ≢ Greater) here (up.rest k (omega arith) within));
+        }
+
+    pub all_noted : length names ≤ k → AreNoted r offsets
+    all_noted end = record {
+      empty = up.empty;
+      each = λ j d there.
+          let found = are.same.keeps (get_or offsets j d) (All-contains_itself offsets j d there) in
+          let within : found.0 < k = omega (arith, found.1, end, length-map names (λ (n : NameAt). n.start)) in
+          let is : slice_index (starts names) found.0 ≡ get_or offsets j d = get_or_default (starts names) found.0 0 (get_or offsets j d) found.1 ∙ found.2 in
+          subst (λ (off : ℕ). 0 < slice_index r.ranks off) is (up.noted found.0 within);
+    }

@@ -18,8 +18,8 @@
 //!   with the symbols of the file. `source` and `cursors` read the section.
 //! - `section_groups` finds the group of records of a section, and `source_lines` in it the line of
 //!   an instruction.
-//! - `type_order` finds the order of the records of .BTF, by `type_keys`, `type_layers` and
-//!   `name_ranks`, and `ordered_types` writes them in it.
+//! - `type_order` finds the order of the records of .BTF, by `type_keys`, `type_layers` and, with
+//!   `name_ranks`, `type_names`, and `ordered_types` writes them in it.
 //! - `extension_file` writes .BTF.ext anew, by `groups` and `extension_writer`.
 //! - `object_writer` writes the file in one pass: the sections by `section_writer`, with the rows of
 //!   `relocation_rows`, then .BTF and .BTF.ext, then the symbols by `symbol_rows`. `names` is the
@@ -60,6 +60,7 @@ mod symbol_rows;
 mod type_checks;
 mod type_keys;
 mod type_layers;
+mod type_names;
 mod type_order;
 mod types;
 mod types_writer;

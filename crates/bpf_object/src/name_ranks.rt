@@ -4,10 +4,10 @@
 //! several megabytes. Names inside one string have different lengths, so only names whose bytes are
 //! apart are compared by their bytes.
 
-ghost use Rattle.std.specs.Prelude.{◌≡◌, ◌+◌, ◌^◌, ◌<◌, true, length, IfOk};
+ghost use Rattle.std.specs.Prelude.{◌≡◌, ◌≢◌, ◌+◌, ◌^◌, ◌<◌, true, length, slice_index, IfOk, OnOk};
 ghost use Rattle.std.specs.{Cmp.Lexicographic.slice_cmp, List.All};
 ghost use Rattle.std.specs.Ordering.{nat_cmp};
-ghost use Rattle.std.specs.declared.cmp.Ordering.TheVariants.{Less, Equal};
+ghost use Rattle.std.specs.declared.cmp.Ordering.TheVariants.{Less, Equal, Greater};
 ghost use Rattle.bpf_elf.specs.Names.{is_closed};
 ghost use Rattle.bpf_object.specs.private.NameRanks as spec;
 
@@ -44,7 +44,9 @@ fn compare_texts(first: &[u8], second: &[u8]) -> Ordering
 
 /// Compares names in this way.
 fn compare(strings: &[u8], a: &NameAt, b: &NameAt) -> Ordering
-    ensures { spec.HasEnd strings.now a.now → spec.HasEnd strings.now b.now
+    ensures bytes { result ≡ slice_cmp nat_cmp (spec.bytes_key strings.now a.now)
+        (spec.bytes_key strings.now b.now) }
+    ensures names { spec.HasEnd strings.now a.now → spec.HasEnd strings.now b.now
         → result ≡ slice_cmp nat_cmp (spec.name_key strings.now a.now.start)
         (spec.name_key strings.now b.now.start) }
 {
@@ -106,10 +108,10 @@ impl<'a, A: Allocator> Model for NameRanks<'a, A> {
 
 impl<'a, A: Allocator + Copy> NameRanks<'a, A> {
     /// The rank of the empty name, which is the first.
-    #[tactic(auto, using(crate::proofs::RankLemmas::ranks_of_empty))]
+    #[tactic(auto, using(crate::proofs::RankLemmas::first_ranks))]
     fn of_empty(alloc: A, strings: &'a [u8]) -> Result<NameRanks<'a, A>, AllocError>
         requires { is_closed strings.now ≡ true }
-        ensures { IfOk result (λ r. r.strings ≡ strings.now) }
+        ensures { IfOk result (λ r. spec.OfEmpty strings.now r) }
     {
         let mut ranks = vec![in alloc; 0; strings.len()]?;
         ranks[0] = 1;
@@ -129,7 +131,8 @@ impl<'a, A: Allocator + Copy> NameRanks<'a, A> {
         requires end { spec.HasEnd self.old.strings name }
         requires greater { slice_cmp nat_cmp (spec.name_key self.old.strings self.old.last.start)
             (spec.name_key self.old.strings name.start) ≡ Less }
-        ensures { self.new.strings ≡ self.old.strings }
+        ensures strings { self.new.strings ≡ self.old.strings }
+        ensures notes { OnOk result (spec.Notes self.old self.new name.start) }
     {
         self.names.push(name.start)?;
         self.ranks[name.start] = self.names.len() as u32;
@@ -143,35 +146,40 @@ impl<'a, A: Allocator + Copy> NameRanks<'a, A> {
         requires few { length self.old.names < 2 ^ 32 }
         requires same { slice_cmp nat_cmp (spec.name_key self.old.strings self.old.last.start)
             (spec.name_key self.old.strings off) ≡ Equal }
-        ensures { self.new.strings ≡ self.old.strings }
+        ensures strings { self.new.strings ≡ self.old.strings }
+        ensures notes { spec.Notes self.old self.new off }
     {
         self.ranks[off] = self.names.len() as u32;
     }
 
-    /// Notes a name, unless it is less than those before.
+    /// Notes a name that isn't less than those before.
     fn add(&mut self, name: NameAt) -> Result<(), AllocError>
-        requires { spec.HasEnd self.old.strings name }
-        ensures { self.new.strings ≡ self.old.strings }
+        requires there { name.start < length self.old.strings }
+        requires few { length self.old.names + 1 < 2 ^ 32 }
+        requires end { spec.HasEnd self.old.strings name }
+        requires not_less { slice_cmp nat_cmp (spec.name_key self.old.strings self.old.last.start)
+            (spec.name_key self.old.strings name.start) ≢ Greater }
+        ensures strings { self.new.strings ≡ self.old.strings }
+        ensures notes { OnOk result (spec.Notes self.old self.new name.start) }
     {
-        if name.start >= self.strings.len() || self.names.len() >= 0xffff_ffff {
-            return Ok(());
-        }
         match compare(self.strings, &self.last, &name) {
             Ordering::Less => self.push(name)?,
-            Ordering::Equal => self.repeat(name.start),
-            Ordering::Greater => {}
+            _ => self.repeat(name.start),
         }
         Ok(())
     }
 
-    /// The ranks of the names at these offsets.
+    /// The ranks of the names at these offsets, and of the empty name.
     pub(crate) fn new(
         alloc: A,
         strings: &'a [u8],
         offsets: &[u32],
     ) -> Result<NameRanks<'a, A>, AllocError>
-        requires { is_closed strings.now ≡ true }
-        ensures { IfOk result (λ r. r.strings ≡ strings.now) }
+        requires closed { is_closed strings.now ≡ true }
+        requires inside { All (λ off. off < length strings.now) offsets.now }
+        requires few { length offsets.now + 1 < 2 ^ 32 }
+        ensures strings { IfOk result (λ r. r.strings ≡ strings.now) }
+        ensures noted { IfOk result (λ r. spec.AreNoted r offsets.now) }
     {
         let names = sorted_names(alloc, strings, offsets)?;
         let mut ranks = NameRanks::of_empty(alloc, strings)?;
@@ -183,13 +191,27 @@ impl<'a, A: Allocator + Copy> NameRanks<'a, A> {
 
     /// 1 and the rank of the name at an offset, or 0 if it wasn't noted.
     pub(crate) fn rank(&self, off: u32) -> u32
-        ensures { 0 < result → spec.IsRank self.now off result }
+        ensures is { result ≡ slice_index self.now.ranks off }
+        ensures rank { 0 < result → spec.IsRank self.now off result }
     {
         match self.ranks.get(off as usize) {
             Some(rank) => *rank,
             None => 0,
         }
     }
+}
+
+/// These offsets, each once.
+fn distinct_offsets<A: Allocator + Copy>(
+    alloc: A,
+    offsets: &[u32],
+) -> Result<Vec<u32, A>, AllocError>
+    ensures { IfOk result (λ distinct. spec.HasSame offsets.now distinct.items) }
+{
+    let mut distinct = Vec::from_slice(alloc, offsets)?;
+    distinct.sort_unstable();
+    distinct.dedup();
+    Ok(distinct)
 }
 
 /// The names at these offsets, each once.
@@ -200,11 +222,9 @@ fn distinct_names<A: Allocator + Copy>(
     offsets: &[u32],
 ) -> Result<Vec<NameAt, A>, AllocError>
     requires { is_closed strings.now ≡ true }
-    ensures { IfOk result (λ names. All (spec.HasEnd strings.now) names.items) }
+    ensures { IfOk result (λ names. spec.AreNames strings.now offsets.now names.items) }
 {
-    let mut distinct = Vec::from_slice(alloc, offsets)?;
-    distinct.sort_unstable();
-    distinct.dedup();
+    let distinct = distinct_offsets(alloc, offsets)?;
     let mut names = Vec::with_capacity(alloc, distinct.len())?;
     let mut last = NameAt { start: 0, end: 0 };
     for off in &distinct {
@@ -215,14 +235,14 @@ fn distinct_names<A: Allocator + Copy>(
 }
 
 /// These names in the order of their ranks.
-#[tactic(auto, using(crate::proofs::NameEnds::all_moved))]
 fn sorted_names<A: Allocator + Copy>(
     alloc: A,
     strings: &[u8],
     offsets: &[u32],
 ) -> Result<Vec<NameAt, A>, AllocError>
     requires { is_closed strings.now ≡ true }
-    ensures { IfOk result (λ names. All (spec.HasEnd strings.now) names.items) }
+    ensures are { IfOk result (λ names. spec.AreNames strings.now offsets.now names.items) }
+    ensures rise { IfOk result (λ names. spec.Rise strings.now names.items) }
 {
     let mut names = distinct_names(alloc, strings, offsets)?;
     names.sort_by(|a, b| compare(strings, a, b))?;

@@ -15,7 +15,7 @@ ghost use Rattle.bpf_object.specs.private.TypeSteps as spec;
 use crate::name_ranks::NameRanks;
 use crate::type_keys::{NO_KEY, RecordKey, is_before, record_key};
 use crate::type_layers::{at, find_layers};
-use btf_raw::{FWD, TYPE_TAG, VAR};
+use crate::type_names::type_names;
 use btf_types::FileSections;
 use std::alloc::{AllocError, Allocator};
 
@@ -204,21 +204,6 @@ fn is_order<A: Allocator + Copy>(
     numbers.len() == ids.len() + 1 && at(numbers, 0) == 0
 }
 
-/// The offsets of the names of all records that may be sorted by them.
-fn name_offsets<A: Allocator + Copy>(
-    alloc: A,
-    sections: &FileSections<'_>,
-) -> Result<Vec<u32, A>, AllocError> {
-    let mut offsets = Vec::new(alloc);
-    for index in 0..sections.count() {
-        let record = sections.record(index + 1);
-        if matches!(record.kind(), VAR | FWD | TYPE_TAG) {
-            offsets.push(record.word(0))?;
-        }
-    }
-    Ok(offsets)
-}
-
 /// The order of the records, and their new numbers. The order that is found is compared with the
 /// definition: `None`, if they differed, would be an error of this module.
 #[tactic(auto, using(crate::proofs::OrderFound::order_found))]
@@ -232,8 +217,7 @@ pub(crate) fn type_order<A: Allocator + Copy>(
         spec.AreNumbered sections.now order.ids.items order.numbers.items)) }
 {
     let layers = find_layers(alloc, sections)?;
-    let offsets = name_offsets(alloc, sections)?;
-    let names = NameRanks::new(alloc, sections.strings(), &offsets)?;
+    let names = type_names(alloc, sections)?;
     let order = find_order(alloc, sections, &layers, &names)?;
     if is_order(sections, &layers, &names, &order.ids, &order.numbers) {
         Ok(Some(order))

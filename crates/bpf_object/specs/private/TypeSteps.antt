@@ -1,13 +1,13 @@
 -- The order of the records of .BTF as it is computed, by old numbers.
-use Rattle.std.specs.Prelude.{◌≡◌, ℕ, ◌+◌, ◌-◌, ◌^◌, ◌<◌, ◌≤◌, ◌==◌, min, true, List, length, map, slice_index, slice_index_or, if◌then◌else◌}
-use Rattle.std.specs.{List.All, Ordering.nat_cmp, Ordering.ordering_then}
+use Rattle.std.specs.Prelude.{◌≡◌, ℕ, ◌+◌, ◌-◌, ◌^◌, ◌<◌, ◌≤◌, ◌==◌, ◌||◌, min, Bool, true, List, length, map, slice_index, slice_index_or, if◌then◌else◌}
+use Rattle.std.specs.{List.All, List.Contains, Ordering.nat_cmp, Ordering.ordering_then}
 use Rattle.std.specs.declared.cmp.Ordering.TheVariants.{Less}
 use Rattle.bpf_elf.specs.Names.{is_closed, string_at}
 use Rattle.btf_raw.specs.KindNumbers.{FWD, VAR, DATASEC, TYPE_TAG}
-use Rattle.btf_raw.specs.Frames.{third_word, kind}
+use Rattle.btf_raw.specs.Frames.{name_word, third_word, kind}
 use Rattle.btf_types.specs.Sections.{SectionWords}
 use Rattle.bpf_object.specs.declared.{type_keys.RecordKey.RecordKey, type_layers.Walk.Walk}
-use Rattle.bpf_object.specs.TypeOrder.{frame_of, layer, group, sorted_name, sorted_flag, sorted_type, compare_types, new_number, IsOrder, renewed_frame}
+use Rattle.bpf_object.specs.TypeOrder.{frame_of, layer, group, is_sorted, sorted_name, sorted_flag, sorted_type, compare_types, new_number, IsOrder, renewed_frame}
 use Rattle.bpf_object.specs.private.NameRanks.{RankedNames, IsRank}
 
 -- a type is TYPE_TAG, and this is its type
@@ -32,6 +32,20 @@ steps_of walks = map (λ walk. walk.steps) walks
 
 abbrev pub AreLayers : SectionWords → List ℕ → Type 0
 AreLayers s layers = (id : ℕ) → id ≤ length s.frames → slice_index layers id ≡ layer s id
+
+-- records of this kind may be sorted by their names
+abbrev pub may_be_sorted : ℕ → Bool
+may_be_sorted k = k == VAR || (k == FWD || k == TYPE_TAG)
+
+-- the offsets of the names of those among the first n records
+pub record AreNameOffsets (s : SectionWords) (n : ℕ) (offsets : List ℕ) : Type 0 where
+  pub inside : All (λ off. off < length s.strings) offsets
+  pub few : length offsets ≤ n
+  pub each : (id : ℕ) → 0 < id → id ≤ n → may_be_sorted (kind (frame_of s id)) ≡ true → Contains offsets (name_word (frame_of s id))
+
+-- the name that each record is sorted by has a rank; it is the empty one if it is sorted by none
+abbrev pub AreRanked : SectionWords → RankedNames → Type 0
+AreRanked s names = (id : ℕ) → 0 < id → id ≤ length s.frames → 0 < slice_index names.ranks (if is_sorted s id then name_word (frame_of s id) else 0)
 
 -- the new number of a type, by a list of those of all types from void on
 abbrev pub numbered : List ℕ → ℕ → ℕ
