@@ -1,4 +1,4 @@
--- Records whose keys are in order, with ranks in place of names, are in order.
+-- Records are compared by their keys, which have ranks in place of names.
 use Rattle.std.proofs.Common.{◌≡◌, ◌≢◌, ℕ, ◌-◌, ◌<◌, ◌==◌, ◌&&◌, ◌||◌, Bool, true, false, List, [], ◌∷◌, ◌++◌, length, get_or, map, inl, inr, refl, sym, ap, ◌∙◌, arith}
 use Rattle.std.specs.Prelude.{if◌then◌else◌, nat_le, nat_lt, slice_index}
 use Rattle.std.specs.{Cmp.Lexicographic.slice_cmp}
@@ -9,13 +9,12 @@ use Rattle.std.proofs.lemmas.Cmp.{ranked, tied_itself, nat_cmp_total, nat_list_c
 use Rattle.std.proofs.lemmas.List.{get_or-map, length-map}
 use Rattle.std.proofs.lemmas.Map.Keys.{Less-from_sorted}
 use Rattle.bpf_elf.specs.Names.{is_closed, string_at}
-use Rattle.btf_raw.specs.KindNumbers.{FWD, VAR, TYPE_TAG}
-use Rattle.btf_raw.specs.Frames.{name_word, third_word, kind, flag}
+use Rattle.btf_raw.specs.Frames.{name_word}
 use Rattle.btf_types.specs.Sections.{SectionWords}
 use Rattle.bpf_object.specs.declared.type_keys.RecordKey.{RecordKey}
-use Rattle.bpf_object.specs.TypeOrder.{frame_of, layer, group, has_layer, is_sorted, sorted_name, sorted_flag, sorted_type, compare_types}
+use Rattle.bpf_object.specs.TypeOrder.{frame_of, group, is_sorted, sorted_name, sorted_flag, sorted_type, compare_types}
 use Rattle.bpf_object.specs.private.NameRanks.{RankedNames, text_key, name_key, IsRank}
-use Rattle.bpf_object.specs.private.TypeSteps.{group_of, IsKey, Precede}
+use Rattle.bpf_object.specs.private.TypeSteps.{sorted_offset, IsKey}
 use Rattle.bpf_object.proofs.OrderLayers.{less}
 
 -- ---- comparisons
@@ -95,44 +94,6 @@ module _ (r : RankedNames) where
 
 -- ---- keys
 
-module _ (s : SectionWords) (names : RankedNames) (new : ℕ → ℕ) (a b : ℕ) (left right : RecordKey) (first : IsKey s names new a left) (second : IsKey s names new b right)
-    (are : Precede left a right b) where
-  names_compare : slice_cmp nat_cmp (text_key (sorted_name s a)) (text_key (sorted_name s b)) ≡ nat_cmp left.name right.name
-  names_compare =
-      let one = first.name are.known in
-      let two = second.name are.other in
-      ap (λ (x : List ℕ). slice_cmp nat_cmp (text_key x) (text_key (sorted_name s b))) one.1
-      ∙ ap (λ (y : List ℕ). slice_cmp nat_cmp (name_key names.strings one.0) (text_key y)) two.1
-      ∙ rank_compares names one.0 two.0 left.name right.name one.2 two.2 are.known are.other
-
-  pub precede_compares : compare_types s new a b ≡ Less
-  precede_compares =
-      let g = nat_cmp (group s a) (group s b) in
-      let rest = slice_cmp nat_cmp (sorted_flag s a ∷ sorted_type s new a ∷ []) (sorted_flag s b ∷ sorted_type s new b ∷ []) in
-      let f = nat_cmp (sorted_flag s a) (sorted_flag s b) in
-      let t = nat_cmp (sorted_type s new a) (sorted_type s new b) in
-      ap (λ (o : Ordering). ordering_then (ordering_then g o) (nat_cmp a b))
-      (text_append (sorted_name s a) (sorted_name s b) (sorted_flag s a ∷ sorted_type s new a ∷ []) (sorted_flag s b ∷ sorted_type s new b ∷ []))
-      ∙ ap (λ (o : Ordering). ordering_then (ordering_then g (ordering_then o rest)) (nat_cmp a b)) names_compare
-      ∙ nested g (nat_cmp left.name right.name) f t (nat_cmp a b)
-      ∙ ap (λ (n : ℕ). ordering_then (nat_cmp n (group s b)) (ordering_then (nat_cmp left.name right.name) (ordering_then f (ordering_then t (nat_cmp a b))))) (sym first.group)
-      ∙ ap (λ (n : ℕ). ordering_then (nat_cmp left.group n) (ordering_then (nat_cmp left.name right.name) (ordering_then f (ordering_then t (nat_cmp a b))))) (sym second.group)
-      ∙ ap (λ (n : ℕ). ordering_then (nat_cmp left.group right.group) (ordering_then (nat_cmp left.name right.name) (ordering_then (nat_cmp n (sorted_flag s b)) (ordering_then t (nat_cmp a b)))))
-      (sym first.flag)
-      ∙ ap (λ (n : ℕ). ordering_then (nat_cmp left.group right.group) (ordering_then (nat_cmp left.name right.name) (ordering_then (nat_cmp left.flag n) (ordering_then t (nat_cmp a b)))))
-      (sym second.flag)
-      ∙ ap (λ (n : ℕ).
-      ordering_then (nat_cmp left.group right.group)
-      (ordering_then (nat_cmp left.name right.name) (ordering_then (nat_cmp left.flag right.flag) (ordering_then (nat_cmp n (sorted_type s new b)) (nat_cmp a b)))))
-      (sym first.target)
-      ∙ ap (λ (n : ℕ).
-      ordering_then (nat_cmp left.group right.group)
-      (ordering_then (nat_cmp left.name right.name) (ordering_then (nat_cmp left.flag right.flag) (ordering_then (nat_cmp left.target n) (nat_cmp a b)))))
-      (sym second.target)
-      ∙ are.less
-
--- ---- a key that is computed
-
 pub first_empty : (strings : List ℕ) → is_closed strings ≡ true → string_at strings 0 ≡ []
 first_empty [] closed = refl
 first_empty (c ∷ rest) closed =
@@ -144,22 +105,41 @@ sorted_text : (b : Bool) (strings : List ℕ) (off : ℕ) → is_closed strings 
 sorted_text true strings off closed = refl
 sorted_text false strings off closed = sym (first_empty strings closed)
 
-pub key_is : (s : SectionWords) (names : RankedNames) (new : ℕ → ℕ) (id : ℕ) (k l off fl t : ℕ) (low chosen : Bool) (made : RecordKey) → kind (frame_of s id) ≡ k → layer s id ≡ l
-    → name_word (frame_of s id) ≡ off → flag (frame_of s id) ≡ fl → third_word (frame_of s id) ≡ t → low ≡ (k == TYPE_TAG && nat_le l (length s.frames))
-    → chosen ≡ (k == VAR || (k == FWD || low)) → made.group ≡ group_of k l → made.flag ≡ (if chosen then fl else 0) → made.target ≡ (if low then new t else 0)
-    → (0 < made.name → IsRank names (if chosen then off else 0) made.name) → names.strings ≡ s.strings → is_closed s.strings ≡ true → IsKey s names new id made
-key_is s names new id k l off fl t low chosen made kinds layers offs flags types lows choices groups made_flag made_type made_name strings closed =
-    let low_is : has_layer s id ≡ low =
-    ap (λ (j : ℕ). j == TYPE_TAG && nat_le (layer s id) (length s.frames)) kinds ∙ ap (λ (m : ℕ). k == TYPE_TAG && nat_le m (length s.frames)) layers ∙ sym lows in
-    let chosen_is : is_sorted s id ≡ chosen =
-    ap (λ (j : ℕ). j == VAR || (j == FWD || has_layer s id)) kinds ∙ ap (λ (y : Bool). k == VAR || (k == FWD || y)) low_is ∙ sym choices in
-    let text : sorted_name s id ≡ string_at names.strings (if chosen then off else 0) =
-    ap (λ (y : Bool). if y then string_at s.strings (name_word (frame_of s id)) else []) chosen_is
-    ∙ ap (λ (o : ℕ). if chosen then string_at s.strings o else []) offs ∙ sorted_text chosen s.strings off closed
-    ∙ ap (λ (x : List ℕ). string_at x (if chosen then off else 0)) (sym strings) in
-    record {
-      group = groups ∙ ap (λ (j : ℕ). group_of j l) (sym kinds) ∙ ap (λ (m : ℕ). group_of (kind (frame_of s id)) m) (sym layers);
-      flag = made_flag ∙ ap (λ (y : Bool). if y then fl else 0) (sym chosen_is) ∙ ap (λ (n : ℕ). if is_sorted s id then n else 0) (sym flags);
-      target = made_type ∙ ap (λ (y : Bool). if y then new t else 0) (sym low_is) ∙ ap (λ (n : ℕ). if has_layer s id then new n else 0) (sym types);
-      name = λ some. (if chosen then off else 0, text, made_name some);
-    }
+-- keys are compared in this way
+abbrev pub key_cmp : RecordKey → RecordKey → Ordering
+key_cmp a b =
+    ordering_then (nat_cmp a.group b.group)
+    (ordering_then (nat_cmp a.name b.name) (ordering_then (nat_cmp a.flag b.flag) (ordering_then (nat_cmp a.target b.target) (nat_cmp a.id b.id))))
+
+module _ (s : SectionWords) (names : RankedNames) (new : ℕ → ℕ) (closed : is_closed s.strings ≡ true) (strings : names.strings ≡ s.strings) where
+  name_text : (id : ℕ) → sorted_name s id ≡ string_at names.strings (sorted_offset s id)
+  name_text id =
+      sorted_text (is_sorted s id) s.strings (name_word (frame_of s id)) closed ∙ ap (λ (x : List ℕ). string_at x (sorted_offset s id)) (sym strings)
+
+  module _ (a b : RecordKey) (first : IsKey s names new a) (second : IsKey s names new b) where
+    names_compare : slice_cmp nat_cmp (text_key (sorted_name s a.id)) (text_key (sorted_name s b.id)) ≡ nat_cmp a.name b.name
+    names_compare =
+        ap (λ (x : List ℕ). slice_cmp nat_cmp (text_key x) (text_key (sorted_name s b.id))) (name_text a.id)
+        ∙ ap (λ (y : List ℕ). slice_cmp nat_cmp (name_key names.strings (sorted_offset s a.id)) (text_key y)) (name_text b.id)
+        ∙ rank_compares names (sorted_offset s a.id) (sorted_offset s b.id) a.name b.name first.name second.name first.known second.known
+
+    -- with ranks in place of names
+    pub keys_compare : compare_types s new a.id b.id ≡ key_cmp a b
+    keys_compare =
+        let g = nat_cmp (group s a.id) (group s b.id) in
+        let rest = slice_cmp nat_cmp (sorted_flag s a.id ∷ sorted_type s new a.id ∷ []) (sorted_flag s b.id ∷ sorted_type s new b.id ∷ []) in
+        let f = nat_cmp (sorted_flag s a.id) (sorted_flag s b.id) in
+        let t = nat_cmp (sorted_type s new a.id) (sorted_type s new b.id) in
+        let i = nat_cmp a.id b.id in
+        let n = nat_cmp a.name b.name in
+        ap (λ (o : Ordering). ordering_then (ordering_then g o) i)
+        (text_append (sorted_name s a.id) (sorted_name s b.id) (sorted_flag s a.id ∷ sorted_type s new a.id ∷ []) (sorted_flag s b.id ∷ sorted_type s new b.id ∷ []))
+        ∙ ap (λ (o : Ordering). ordering_then (ordering_then g (ordering_then o rest)) i) names_compare
+        ∙ nested g n f t i
+        ∙ ap (λ (o : Ordering). ordering_then o (ordering_then n (ordering_then f (ordering_then t i)))) (same_cmp first.group second.group)
+        ∙ ap (λ (o : Ordering). ordering_then (nat_cmp a.group b.group) (ordering_then n (ordering_then o (ordering_then t i)))) (same_cmp first.flag second.flag)
+        ∙ ap (λ (o : Ordering). ordering_then (nat_cmp a.group b.group) (ordering_then n (ordering_then (nat_cmp a.flag b.flag) (ordering_then o i))))
+        (same_cmp first.target second.target)
+      where
+        same_cmp : {p q x y : ℕ} → p ≡ x → q ≡ y → nat_cmp x y ≡ nat_cmp p q
+        same_cmp e h = cc

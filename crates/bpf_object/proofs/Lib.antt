@@ -78,6 +78,8 @@ pub mod OrderedAgain
 pub mod LayerLemmas
 pub mod RankLemmas
 pub mod KeyLemmas
+pub mod SortedKeys
+pub mod SortedGroups
 pub mod OrderFound
 pub mod OrderedBytes
 pub mod RewrittenTypes

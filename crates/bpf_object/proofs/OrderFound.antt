@@ -10,7 +10,7 @@ use Rattle.std.proofs.lemmas.Map.Keys.{sorted_from_all_adjacent}
 use Rattle.btf_types.specs.Sections.{SectionWords}
 use Rattle.bpf_object.specs.TypeOrder.{frame_of, key, compare_types, new_number}
 use Rattle.btf_raw.specs.Frames.{third_word}
-use Rattle.bpf_object.specs.private.TypeSteps.{numbered, AreSorted, AreNumbered}
+use Rattle.bpf_object.specs.private.TypeSteps.{numbered, AreSortedTo, AreNumbered}
 use Rattle.bpf_object.proofs.Places.{ids_length, find, not_there, place_at, place_out}
 use Rattle.bpf_object.proofs.OrderLayers.{compare_total, key_same}
 
@@ -35,9 +35,12 @@ compare_same s f g a b same =
     ap (λ (k : List ℕ). ordering_then (slice_cmp nat_cmp k (key s f b)) (nat_cmp a b)) first
     ∙ ap (λ (k : List ℕ). ordering_then (slice_cmp nat_cmp (key s g a) k) (nat_cmp a b)) second
 
-module _ (s : SectionWords) (ids numbers : List ℕ) (are : IsPermutation (range_with_len 1 (length s.frames)) ids) (sorted : AreSorted s ids numbers) where
+module _ (s : SectionWords) (ids numbers : List ℕ) (sorted : AreSortedTo s ids numbers (length ids)) where
   abbrev n : ℕ
   n = length s.frames
+
+  are : IsPermutation (range_with_len 1 n) ids
+  are = sorted.grouped.all
 
   size : length ids ≡ n
   size = ids_length n ids are

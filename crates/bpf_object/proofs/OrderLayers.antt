@@ -93,7 +93,7 @@ key_same s f g id same =
     let parts = and_parts (k == TYPE_TAG) (nat_le (layer s id) (length s.frames)) both in
     same (eqb-true k TYPE_TAG parts.0) (leb-true (layer s id) (length s.frames) parts.1)))
 
-abbrev Earlier : SectionWords → ℕ → ℕ → Type 0
+abbrev pub Earlier : SectionWords → ℕ → ℕ → Type 0
 Earlier s t a = IsEarlier (length s.frames) (group s) (compare_types s) (compare_total s) (lower_first s) t a
 
 type_earlier : (s : SectionWords) (id : ℕ) → kind (frame_of s id) ≡ TYPE_TAG → layer s id ≤ length s.frames → Earlier s (third_word (frame_of s id)) id
@@ -105,7 +105,7 @@ type_earlier s id is le =
       | inl some ↦ elim (cases_lt (length s.frames) t) [ inl over ↦ inl (inr over) | inr within ↦ inr (some, omega (arith, within), above) ]
     ]
 
-depends : (s : SectionWords) (f g : ℕ → ℕ) (a b : ℕ) → ((t : ℕ) → Earlier s t a → f t ≡ g t) → ((t : ℕ) → Earlier s t b → f t ≡ g t)
+pub depends : (s : SectionWords) (f g : ℕ → ℕ) (a b : ℕ) → ((t : ℕ) → Earlier s t a → f t ≡ g t) → ((t : ℕ) → Earlier s t b → f t ≡ g t)
     → compare_types s f a b ≡ compare_types s g a b
 depends s f g a b left right =
     let first = key_same s f g a (λ is le. left (third_word (frame_of s a)) (type_earlier s a is le)) in

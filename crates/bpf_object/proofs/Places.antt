@@ -49,27 +49,11 @@ range_from a (id ∷ ids) each =
 pub range_found : (ids : List ℕ) → ((k : ℕ) → k < length ids → slice_index ids k ≡ k + 1) → ids ≡ range_with_len 1 (length ids)
 range_found ids each = range_from 1 ids (λ k lt. each k lt ∙ omega arith)
 
-pub unmoved : (xs : List ℕ) → IsPermutation xs xs
-unmoved xs = IsPermutation-refl xs
-
--- elements that change places again
-pub moved_on : (xs ys zs : List ℕ) → IsPermutation xs ys → IsPermutation ys zs → IsPermutation xs zs
-moved_on xs ys zs first second = IsPermutation-trans xs ys zs first second
-
--- what a list is whose elements are moved by a slice of all of it
-pub moved_back : (range items old new : List ℕ) (len : ℕ) → IsPermutation range items → old ≡ items → IsPermutation old new → length items ≡ len
-    → IsPermutation range (take len (new ++ drop (length new) items))
-moved_back range items old new len first same second whole =
-    let moved : IsPermutation items new = subst (λ (xs : List ℕ). IsPermutation xs new) same second in
-    let size : length new ≡ length items = length_permutation items new moved in
-    let none : drop (length new) items ≡ [] = drop_all (length new) items (omega (arith, size)) in
-    let is : take len (new ++ drop (length new) items) ≡ new =
-    ap (λ (xs : List ℕ). take len (new ++ xs)) none ∙ ap (take len) (append-nil new) ∙ take_all len new (omega (arith, size, whole)) in
-    subst (λ (xs : List ℕ). IsPermutation range xs) (sym is) (IsPermutation-trans range items new first moved)
-
--- a part whose elements change places
-pub part_moves : (a k : ℕ) (xs ys : List ℕ) → IsPermutation (mid_of a k xs) ys → IsPermutation xs (put_mid a k xs ys)
-part_moves a k xs ys are = IsPermutation-put_mid a k xs ys are
+-- what a list is after a write to a slice of all of it
+pub written_back : {X : Type 0} (new items : List X) (len : ℕ) → length new ≡ length items → length items ≡ len → take len (new ++ drop (length new) items) ≡ new
+written_back {X = X} new items len same whole =
+    let none : drop (length new) items ≡ [] = drop_all (length new) items (omega (arith, same)) in
+    ap (λ (xs : List X). take len (new ++ xs)) none ∙ ap (take len) (append-nil new) ∙ take_all len new (omega (arith, same, whole))
 
 -- ---- a permutation of the numbers from 1
 

@@ -206,9 +206,7 @@ fn write_ordered<A: Allocator + Copy>(
     requires closed { is_closed sections.now.strings ≡ true }
     ensures { MatchResult result (λ out. IsCanonicalFile elf.now out.items) (Fails elf.now) }
 {
-    let Some(order) = type_order(alloc, sections)? else {
-        return Err(ObjectError::Memory);
-    };
+    let order = type_order(alloc, sections)?;
     let x = renumbered(x, &order.numbers);
     write_in_order(alloc, elf, sections, &order.ids, x)
 }

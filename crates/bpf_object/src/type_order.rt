@@ -3,18 +3,29 @@
 //! Compilers write some records in the order of addresses in their memory. They are sorted by their
 //! names, and TYPE_TAG also by the new numbers of their types. So the records are sorted group by
 //! group, each group by numbers that the groups before it have given.
-//!
-//! What comes out is compared with the definition, neighbour by neighbour. So the proof is about
-//! this comparison, and not about how the order was found.
 
-ghost use Rattle.std.specs.Prelude.{◌≡◌, ◌^◌, ◌<◌, true, length, IfOk, IfSome};
-ghost use Rattle.std.specs.{List.range_with_len, List.Sorted.IsPermutation};
+ghost use Rattle.std.specs.Prelude.{
+  ◌≡◌,
+  ◌≢◌,
+  ℕ,
+  ◌+◌,
+  ◌^◌,
+  ◌<◌,
+  ◌≤◌,
+  true,
+  length,
+  slice_index,
+  slice_index_or,
+  IfOk,
+};
+ghost use Rattle.std.specs.{List.All, List.range_with_len, List.Sorted.IsPermutation};
 ghost use Rattle.bpf_elf.specs.Names.{is_closed};
+ghost use Rattle.bpf_object.specs.declared.type_keys.RecordKey.{RecordKey};
 ghost use Rattle.bpf_object.specs.private.TypeSteps as spec;
+ghost use Rattle.bpf_object.specs.private.TypeSteps.{ids_in, numbered};
 
-use crate::name_ranks::NameRanks;
-use crate::type_keys::{NO_KEY, RecordKey, is_before, record_key};
-use crate::type_layers::{at, find_layers};
+use crate::type_keys::{RecordKey, Records};
+use crate::type_layers::find_layers;
 use crate::type_names::type_names;
 use btf_types::FileSections;
 use std::alloc::{AllocError, Allocator};
@@ -28,202 +39,136 @@ pub(crate) struct TypeOrder<A: Allocator> {
     pub(crate) numbers: Vec<u32, A>,
 }
 
-/// The numbers of all records.
-#[tactic(auto, using(crate::proofs::Places::all_more))]
-fn all_ids<A: Allocator>(alloc: A, count: u32) -> Result<Vec<u32, A>, AllocError>
-    ensures { IfOk result (λ ids. ids.items ≡ range_with_len 1 count) }
-{
-    let mut ids = Vec::with_capacity(alloc, count as usize)?;
-    for index in 0..count {
-        ids.push(index + 1)?;
-    }
-    Ok(ids)
-}
-
-/// The keys of records, by their numbers from void on.
-fn store_keys<A: Allocator + Copy>(
-    keys: &mut [RecordKey],
-    sections: &FileSections<'_>,
-    layers: &[u32],
-    names: &NameRanks<'_, A>,
-    numbers: &[u32],
-    ids: &[u32],
-)
-    requires { spec.IsSortable sections.now layers.now names.now }
-{
-    for id in ids {
-        if *id != 0 && *id <= sections.count() && (*id as usize) < keys.len() {
-            keys[*id as usize] = record_key(sections, layers, names, numbers, *id);
-        }
-    }
-}
-
-/// The key of a record among these.
-fn key_at(keys: &[RecordKey], id: u32) -> RecordKey {
-    match keys.get(id as usize) {
-        Some(key) => *key,
-        None => NO_KEY,
-    }
-}
-
-/// Gives records their new numbers: `first`, and those that follow.
-fn number(numbers: &mut [u32], ids: &[u32], first: usize) {
-    for k in 0..ids.len() {
-        if (ids[k] as usize) < numbers.len() {
-            let place = u32::try_from(first.saturating_add(k));
-            numbers[ids[k] as usize] = place.unwrap_or(0);
-        }
-    }
-}
-
-/// Sorts the records from one place up to another, and numbers them.
-#[tactic(auto, using(crate::proofs::Places::part_moves))]
-fn sort_group<A: Allocator + Copy>(
-    keys: &mut [RecordKey],
-    sections: &FileSections<'_>,
-    layers: &[u32],
-    names: &NameRanks<'_, A>,
-    numbers: &mut [u32],
-    ids: &mut [u32],
-    start: usize,
-    end: usize,
-)
-    requires { spec.IsSortable sections.now layers.now names.now }
-    ensures { IsPermutation ids.old ids.new }
-{
-    let end = end.min(ids.len());
-    let start = start.min(end);
-    let group = &mut ids[start..end];
-    store_keys(keys, sections, layers, names, numbers, group);
-    group.sort_unstable_by_key(|id| (key_at(keys, *id), *id));
-    number(numbers, group, start.saturating_add(1));
-}
-
-/// Whether the records at two places are in different groups, or there is none at the second.
-fn is_apart(keys: &[RecordKey], ids: &[u32], start: usize, end: usize) -> bool {
-    match (ids.get(start), ids.get(end)) {
-        (Some(first), Some(next)) => key_at(keys, *first).group != key_at(keys, *next).group,
-        _ => true,
-    }
-}
-
-/// Sorts and numbers the group up to a place if it ends there, and returns where the next one
-/// begins.
-#[tactic(auto, using(crate::proofs::Places::unmoved))]
-fn sort_if_apart<A: Allocator + Copy>(
-    keys: &mut [RecordKey],
-    sections: &FileSections<'_>,
-    layers: &[u32],
-    names: &NameRanks<'_, A>,
-    numbers: &mut [u32],
-    ids: &mut [u32],
-    start: usize,
-    end: usize,
-) -> usize
-    requires { spec.IsSortable sections.now layers.now names.now }
-    ensures { IsPermutation ids.old ids.new }
-{
-    if !is_apart(keys, ids, start, end) {
-        return start;
-    }
-    sort_group(keys, sections, layers, names, numbers, ids, start, end);
-    end
-}
-
-/// An order of the records by their groups, and each group by its keys.
-
-fn find_order<A: Allocator + Copy>(
+/// The keys of all records in the order of their groups, by these numbers of types.
+fn grouped_keys<A: Allocator + Copy>(
     alloc: A,
-    sections: &FileSections<'_>,
-    layers: &[u32],
-    names: &NameRanks<'_, A>,
-) -> Result<TypeOrder<A>, AllocError>
-    requires { spec.IsSortable sections.now layers.now names.now }
-    ensures { IfOk result (λ order.
-        IsPermutation (range_with_len 1 (length sections.now.frames)) order.ids.items) }
+    records: &Records<'_, A>,
+    numbers: &[u32],
+) -> Result<Vec<RecordKey, A>, AllocError>
+    ensures { IfOk result (λ keys. spec.HaveGroups records.now.sections.now keys.items
+        × spec.AreGrouped records.now.sections.now (ids_in keys.items)) }
 {
-    let count = sections.count() as usize;
-    let mut numbers = vec![in alloc; 0; count + 1]?;
-    let mut keys = vec![in alloc; NO_KEY; count + 1]?;
-    let mut ids = all_ids(alloc, sections.count())?;
-    store_keys(&mut keys, sections, layers, names, &numbers, &ids);
-    ids.sort_by_key(|id| key_at(&keys, *id).group)?;
-    let mut start = 0;
+    let count = records.sections.count();
+    let mut keys = Vec::with_capacity(alloc, count as usize)?;
     for index in 0..count {
-        start = sort_if_apart(
-            &mut keys,
-            sections,
-            layers,
-            names,
-            &mut numbers,
-            &mut ids,
-            start,
-            index + 1,
-        );
+        keys.push(records.key(numbers, index + 1))?;
     }
+    keys.sort_unstable();
+    Ok(keys)
+}
+
+/// Where the group ends that begins at a place.
+fn group_end(keys: &[RecordKey], start: usize) -> usize
+    requires { start < length keys.now }
+    ensures bound { (start < result) × (result ≤ length keys.now) }
+    ensures same { (k : ℕ) (d : RecordKey) → start ≤ k → k < result
+        → (slice_index_or keys.now k d).group ≡ (slice_index_or keys.now start d).group }
+    ensures next { (d : RecordKey) → result < length keys.now
+        → (slice_index_or keys.now result d).group ≢ (slice_index_or keys.now start d).group }
+{
+    for index in start + 1..keys.len() {
+        if keys[index].group != keys[start].group {
+            return index;
+        }
+    }
+    keys.len()
+}
+
+/// Sorts the keys of a group, by the numbers that the groups before it have.
+fn sort_group<A: Allocator + Copy>(
+    records: &Records<'_, A>,
+    numbers: &[u32],
+    group: &mut [RecordKey],
+)
+    requires range { spec.AreInRange (length records.now.sections.now.frames) (ids_in group.old) }
+    requires apart { spec.AreApart (ids_in group.old) }
+    ensures moved { IsPermutation (ids_in group.old) (ids_in group.new) }
+    ensures groups { spec.HaveGroups records.now.sections.now group.new }
+    ensures order { spec.AreInOrder records.now.sections.now (numbered numbers.now)
+        (ids_in group.new) }
+{
+    for key in group.iter_mut() {
+        *key = records.key(numbers, key.id);
+    }
+    group.sort_unstable();
+}
+
+/// Gives the records of a group their new numbers, which are those of their places.
+fn number(numbers: &mut [u32], group: &[RecordKey], start: usize)
+    requires few { start + length group.now < 2 ^ 32 }
+    requires there { All (λ id. id < length numbers.old) (ids_in group.now) }
+    requires apart { spec.AreApart (ids_in group.now) }
+    ensures placed { (k : ℕ) → k < length group.now
+        → slice_index numbers.new (slice_index (ids_in group.now) k) ≡ start + k + 1 }
+    ensures kept { (id d : ℕ)
+        → ((k : ℕ) → k < length group.now → slice_index (ids_in group.now) k ≢ id)
+        → slice_index_or numbers.new id d ≡ slice_index_or numbers.old id d }
+{
+    for k in 0..group.len() {
+        numbers[group[k].id as usize] = (start + k + 1) as u32;
+    }
+}
+
+/// Sorts and numbers the records group by group.
+fn sort_groups<A: Allocator + Copy>(
+    records: &Records<'_, A>,
+    keys: &mut [RecordKey],
+    numbers: &mut [u32],
+)
+    requires groups { spec.HaveGroups records.now.sections.now keys.old }
+    requires sorted { spec.AreSortedTo records.now.sections.now (ids_in keys.old) numbers.old 0 }
+    ensures { spec.AreNumbered records.now.sections.now (ids_in keys.new) numbers.new }
+{
+    let mut start = 0;
+    while start < keys.len() {
+        let end = group_end(keys, start);
+        let group = &mut keys[start..end];
+        sort_group(records, numbers, group);
+        number(numbers, group, start);
+        start = end;
+    }
+}
+
+/// The records that have these keys.
+fn ids_of<A: Allocator>(alloc: A, keys: &[RecordKey]) -> Result<Vec<u32, A>, AllocError>
+    ensures { IfOk result (λ ids. ids.items ≡ ids_in keys.now) }
+{
+    keys.iter().map(|key| key.id).collect(alloc)
+}
+
+/// The order of records, and their new numbers.
+fn order_of<A: Allocator + Copy>(
+    alloc: A,
+    records: &Records<'_, A>,
+) -> Result<TypeOrder<A>, AllocError>
+    ensures { IfOk result (λ order.
+        spec.AreNumbered records.now.sections.now order.ids.items order.numbers.items) }
+{
+    let mut numbers = vec![in alloc; 0; records.sections.count() as usize + 1]?;
+    let mut keys = grouped_keys(alloc, records, &numbers)?;
+    sort_groups(records, &mut keys, &mut numbers);
+    let ids = ids_of(alloc, &keys)?;
     Ok(TypeOrder { ids, numbers })
 }
 
-/// Whether the record at an index has its number, and the one before precedes it.
-fn is_placed<A: Allocator + Copy>(
-    sections: &FileSections<'_>,
-    layers: &[u32],
-    names: &NameRanks<'_, A>,
-    ids: &[u32],
-    numbers: &[u32],
-    k: usize,
-) -> bool
-    requires there { k < length ids.now }
-    requires ids { IsPermutation (range_with_len 1 (length sections.now.frames)) ids.now }
-    requires sortable { spec.IsSortable sections.now layers.now names.now }
-    ensures { result ≡ true → spec.IsPlaced sections.now ids.now numbers.now k }
-{
-    if at(numbers, ids[k]) as usize != k + 1 {
-        return false;
-    }
-    k == 0 || is_before(sections, layers, names, numbers, ids[k - 1], ids[k])
-}
-
-/// Whether the records have these numbers in this order, and each precedes the next.
-fn is_order<A: Allocator + Copy>(
-    sections: &FileSections<'_>,
-    layers: &[u32],
-    names: &NameRanks<'_, A>,
-    ids: &[u32],
-    numbers: &[u32],
-) -> bool
-    requires ids { IsPermutation (range_with_len 1 (length sections.now.frames)) ids.now }
-    requires sortable { spec.IsSortable sections.now layers.now names.now }
-    ensures { result ≡ true → spec.AreSorted sections.now ids.now numbers.now }
-{
-    for k in 0..ids.len() {
-        if !is_placed(sections, layers, names, ids, numbers, k) {
-            return false;
-        }
-    }
-    numbers.len() == ids.len() + 1 && at(numbers, 0) == 0
-}
-
-/// The order of the records, and their new numbers. The order that is found is compared with the
-/// definition: `None`, if they differed, would be an error of this module.
-#[tactic(auto, using(crate::proofs::OrderFound::order_found))]
+/// The order of the records, and their new numbers.
 pub(crate) fn type_order<A: Allocator + Copy>(
     alloc: A,
     sections: &FileSections<'_>,
-) -> Result<Option<TypeOrder<A>>, AllocError>
+) -> Result<TypeOrder<A>, AllocError>
     requires few { length sections.now.frames < 2 ^ 24 }
     requires closed { is_closed sections.now.strings ≡ true }
-    ensures { IfOk result (λ found. IfSome found (λ order.
-        spec.AreNumbered sections.now order.ids.items order.numbers.items)) }
+    ensures { IfOk result (λ order.
+        spec.AreNumbered sections.now order.ids.items order.numbers.items) }
 {
     let layers = find_layers(alloc, sections)?;
     let names = type_names(alloc, sections)?;
-    let order = find_order(alloc, sections, &layers, &names)?;
-    if is_order(sections, &layers, &names, &order.ids, &order.numbers) {
-        Ok(Some(order))
-    } else {
-        Ok(None)
-    }
+    let records = Records {
+        sections,
+        layers,
+        names,
+    };
+    order_of(alloc, &records)
 }
 
 /// Whether the numbers in their new order are in the old one.

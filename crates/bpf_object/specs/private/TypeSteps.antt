@@ -1,13 +1,14 @@
 -- The order of the records of .BTF as it is computed, by old numbers.
-use Rattle.std.specs.Prelude.{◌≡◌, ℕ, ◌+◌, ◌-◌, ◌^◌, ◌<◌, ◌≤◌, ◌==◌, ◌||◌, min, Bool, true, List, length, map, slice_index, slice_index_or, if◌then◌else◌}
-use Rattle.std.specs.{List.All, List.Contains, Ordering.nat_cmp, Ordering.ordering_then}
+use Rattle.std.specs.Prelude.{◌≡◌, ◌≢◌, ℕ, ◌+◌, ◌-◌, ◌^◌, ◌<◌, ◌≤◌, ◌==◌, ◌||◌, min, Bool, true, List, length, map, slice_index, slice_index_or, if◌then◌else◌}
+use Rattle.std.specs.{List.All, List.Contains, List.range_with_len}
+use Rattle.std.specs.List.Sorted.{IsPermutation, IsNonDecreasingBy}
 use Rattle.std.specs.declared.cmp.Ordering.TheVariants.{Less}
-use Rattle.bpf_elf.specs.Names.{is_closed, string_at}
+use Rattle.bpf_elf.specs.Names.{is_closed}
 use Rattle.btf_raw.specs.KindNumbers.{FWD, VAR, DATASEC, TYPE_TAG}
 use Rattle.btf_raw.specs.Frames.{name_word, third_word, kind}
 use Rattle.btf_types.specs.Sections.{SectionWords}
 use Rattle.bpf_object.specs.declared.{type_keys.RecordKey.RecordKey, type_layers.Walk.Walk}
-use Rattle.bpf_object.specs.TypeOrder.{frame_of, layer, group, is_sorted, sorted_name, sorted_flag, sorted_type, compare_types, new_number, IsOrder, renewed_frame}
+use Rattle.bpf_object.specs.TypeOrder.{frame_of, layer, group, is_sorted, sorted_flag, sorted_type, compare_types, new_number, IsOrder, renewed_frame}
 use Rattle.bpf_object.specs.private.NameRanks.{RankedNames, IsRank}
 
 -- a type is TYPE_TAG, and this is its type
@@ -43,10 +44,6 @@ pub record AreNameOffsets (s : SectionWords) (n : ℕ) (offsets : List ℕ) : Ty
   pub few : length offsets ≤ n
   pub each : (id : ℕ) → 0 < id → id ≤ n → may_be_sorted (kind (frame_of s id)) ≡ true → Contains offsets (name_word (frame_of s id))
 
--- the name that each record is sorted by has a rank; it is the empty one if it is sorted by none
-abbrev pub AreRanked : SectionWords → RankedNames → Type 0
-AreRanked s names = (id : ℕ) → 0 < id → id ≤ length s.frames → 0 < slice_index names.ranks (if is_sorted s id then name_word (frame_of s id) else 0)
-
 -- the new number of a type, by a list of those of all types from void on
 abbrev pub numbered : List ℕ → ℕ → ℕ
 numbered numbers id = slice_index_or numbers id id
@@ -55,12 +52,21 @@ numbered numbers id = slice_index_or numbers id id
 abbrev pub group_of : ℕ → ℕ → ℕ
 group_of k l = if k == VAR then 1 else if k == DATASEC then 2 else if k == FWD then 3 else if k == TYPE_TAG then 3 + l else 0
 
+-- the offset of the name that a record is sorted by, or that of the empty one
+abbrev pub sorted_offset : SectionWords → ℕ → ℕ
+sorted_offset s id = if is_sorted s id then name_word (frame_of s id) else 0
+
+-- the name that each record is sorted by has a rank
+abbrev pub AreRanked : SectionWords → RankedNames → Type 0
+AreRanked s names = (id : ℕ) → 0 < id → id ≤ length s.frames → 0 < slice_index names.ranks (sorted_offset s id)
+
 -- what a record is sorted by; its name by the rank, from 1
-pub record IsKey (s : SectionWords) (names : RankedNames) (new : ℕ → ℕ) (id : ℕ) (key : RecordKey) : Type 0 where
-  pub group : key.group ≡ group s id
-  pub flag : key.flag ≡ sorted_flag s id
-  pub target : key.target ≡ sorted_type s new id
-  pub name : 0 < key.name → (off : ℕ) × (sorted_name s id ≡ string_at names.strings off) × IsRank names off key.name
+pub record IsKey (s : SectionWords) (names : RankedNames) (new : ℕ → ℕ) (key : RecordKey) : Type 0 where
+  pub group : key.group ≡ group s key.id
+  pub known : 0 < key.name
+  pub name : IsRank names (sorted_offset s key.id) key.name
+  pub flag : key.flag ≡ sorted_flag s key.id
+  pub target : key.target ≡ sorted_type s new key.id
 
 -- what the order is found from: the layers of the records, and the ranks of their names
 pub record IsSortable (s : SectionWords) (layers : List ℕ) (names : RankedNames) : Type 0 where
@@ -68,26 +74,40 @@ pub record IsSortable (s : SectionWords) (layers : List ℕ) (names : RankedName
   pub closed : is_closed s.strings ≡ true
   pub layers_are : AreLayers s layers
   pub strings : names.strings ≡ s.strings
-
--- the keys are in order, and then the numbers
-pub record Precede (a : RecordKey) (first : ℕ) (b : RecordKey) (second : ℕ) : Type 0 where
-  pub known : 0 < a.name
-  pub other : 0 < b.name
-  pub less :
-      ordering_then (nat_cmp a.group b.group)
-      (ordering_then (nat_cmp a.name b.name) (ordering_then (nat_cmp a.flag b.flag) (ordering_then (nat_cmp a.target b.target) (nat_cmp first second))))
-      ≡ Less
+  pub ranked : AreRanked s names
 
 -- a record has the number of its place, and the one before precedes it
 pub record IsPlaced (s : SectionWords) (ids numbers : List ℕ) (k : ℕ) : Type 0 where
   pub place : slice_index numbers (slice_index ids k) ≡ k + 1
   pub follows : 0 < k → compare_types s (numbered numbers) (slice_index ids (k - 1)) (slice_index ids k) ≡ Less
 
--- so have all, and void has 0
-pub record AreSorted (s : SectionWords) (ids numbers : List ℕ) : Type 0 where
+-- the numbers of records by their keys, and their groups
+abbrev pub ids_in : List RecordKey → List ℕ
+ids_in keys = map (λ (key : RecordKey). key.id) keys
+
+abbrev pub HaveGroups : SectionWords → List RecordKey → Type 0
+HaveGroups s keys = All (λ key. key.group ≡ group s key.id) keys
+
+-- each number is there once
+abbrev pub AreApart : List ℕ → Type 0
+AreApart ids = (i j : ℕ) → i < j → j < length ids → slice_index ids i ≢ slice_index ids j
+
+-- each record precedes the next
+abbrev pub AreInOrder : SectionWords → (ℕ → ℕ) → List ℕ → Type 0
+AreInOrder s new ids = (k : ℕ) → k + 1 < length ids → compare_types s new (slice_index ids k) (slice_index ids (k + 1)) ≡ Less
+
+-- all records are there, in the order of their groups
+pub record AreGrouped (s : SectionWords) (ids : List ℕ) : Type 0 where
+  pub all : IsPermutation (range_with_len 1 (length s.frames)) ids
+  pub rise : IsNonDecreasingBy (group s) ids
+
+-- the groups before a place are in their order, and each record there has the number of its place, and void has 0
+pub record AreSortedTo (s : SectionWords) (ids numbers : List ℕ) (end : ℕ) : Type 0 where
+  pub grouped : AreGrouped s ids
+  pub apart : (j k : ℕ) → j < end → end ≤ k → k < length ids → group s (slice_index ids j) < group s (slice_index ids k)
   pub whole : length numbers ≡ length ids + 1
   pub void : slice_index numbers 0 ≡ 0
-  pub each : (k : ℕ) → k < length ids → IsPlaced s ids numbers k
+  pub each : (k : ℕ) → k < end → IsPlaced s ids numbers k
 
 -- the records in their new order, and the numbers that they have there
 pub record AreNumbered (s : SectionWords) (ids numbers : List ℕ) : Type 0 where

@@ -11,7 +11,6 @@ type_order-requires-clause-few g c = few_records (types_of c.args.elf.now).bytes
 pub write_in_order-requires-clause-order : goal.write_in_order-requires-clause-order
 write_in_order-requires-clause-order g c =
     let s = c.args.sections.now in
-    let order = c.in-Some.order in
-    let found : AreNumbered s order.ids.items order.numbers.items = rw c.in-Some.is at c.in_ok-order.ensures in
+    let order = c.in_ok-order.order in
     subst (λ (ids : List ℕ). AreNumbered s ids c.renumbered-x.result.numbers.now) (sym c.deref-2.ensures.value)
-    (subst (λ (numbers : List ℕ). AreNumbered s order.ids.items numbers) (sym (c.renumbered-x.ensures.numbers ∙ c.deref.ensures.value)) found)
+    (subst (λ (numbers : List ℕ). AreNumbered s order.ids.items numbers) (sym (c.renumbered-x.ensures.numbers ∙ c.deref.ensures.value)) c.in_ok-order.ensures)
