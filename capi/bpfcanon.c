@@ -610,6 +610,9 @@ static const struct meaning object_causes[] = {
 	  "may read" },
 	{ "ExtensionGroupTwice", "a second group of functions has the same section" },
 	{ "FunctionLines", "there are source lines of a function that .BTF.ext doesn't have" },
+	{ "TypesNameTaken",
+	  "a VAR has the name of a FUNC, or a VAR, FWD or TYPE_TAG has the name of a "
+	  "section" },
 };
 
 static const struct meaning no_meaning = { NULL, NULL };

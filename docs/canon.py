@@ -8,7 +8,6 @@ and 2 if a file can't be read or written. It needs Python 3.9 or later, and no o
 """
 
 from __future__ import annotations
-
 import argparse
 from bisect import bisect_left
 from collections import defaultdict, namedtuple
@@ -161,24 +160,22 @@ def write_types(types: Types, parts: list[list[Group]]) -> dict[bytes, bytes]:
 def new_numbers(types: Types) -> dict[int, int]:
     """The new number of each type: of others, VAR, DATASEC, FWD, and TYPE_TAG in layers."""
     numbers: dict[int, int] = {}
-    kinds, tags = defaultdict[str, list[int]](list), defaultdict[int, list[int]](list)
+    waiting: dict[str | int, list[int]] = defaultdict(list)  # by kind, but TYPE_TAG by their type
     for number, it in enumerate(types.records):
-        kinds[it.kind if it.kind in MOVED else ""].append(number)
-        if it.kind == "TYPE_TAG":
-            tags[it.words[2]].append(number)
+        kind = it.kind if it.kind in MOVED else ""
+        waiting[it.words[2] if kind == "TYPE_TAG" else kind].append(number)
     def key(number: int) -> tuple[int | bytes, ...]:
         """By the name, and for TYPE_TAG by the new number of the type: others have no type yet."""
         name_off, info, target, *_ = types.records[number].words
         name = string_at(types.strings, name_off)
         return len(name), name, info >> 31, numbers.get(target, 0), number
-    variables, forward = (sorted(kinds[kind], key=key) for kind in ("VAR", "FWD"))
-    layer = kinds[""] + variables + kinds["DATASEC"] + forward
+    variables, forward = (sorted(waiting[kind], key=key) for kind in ("VAR", "FWD"))
+    layer = waiting[""] + variables + waiting["DATASEC"] + forward
     while layer:
         numbers.update(zip(layer, range(len(numbers), len(types.records))))
-        layer = sorted((tag for number in layer for tag in tags[number]), key=key)
-    loops = (it for it in kinds["TYPE_TAG"] if it not in numbers)
-    numbers.update(zip(loops, range(len(numbers), len(types.records))))
-    return numbers
+        layer = sorted((tag for number in layer for tag in waiting[number]), key=key)
+    loops = [it for it in range(len(types.records)) if it not in numbers]
+    return numbers | dict(zip(loops, range(len(numbers), len(types.records))))
 
 # Refused files: what reads a part of a file checks its rules, in the order of the page.
 class Elf:
@@ -286,8 +283,7 @@ class Elf:
                 for at, (_, info) in zip(range(it.sh_offset, len(self.data), 16), rows):
                     rule("RelocationSymbol", at + R_INFO, info >> 32 in self.symbols)
 
-# Names of fields. Then the fields after name_off and info, by the kind of a record in the order of
-# btf.rst, and those of each of its items.
+# Fields after name_off and info by the kind of a record, as in btf.rst, and those of its items.
 NAME, INFO, SIZE, TYPE, ZERO = "name_off", "info", "size", "type", "0"
 FIELDS = {
     "void": (ZERO,), "INT": (SIZE, "encoding"), "PTR": (TYPE,),
@@ -413,6 +409,11 @@ def read_types(elf: Elf) -> Types | None:
                 rule("TypesSection", at, index > 0 or kind != "DATASEC" or not is_reserved(name))
             elif field == INFO and kind in ("STRUCT", "UNION"):
                 rule("TypesFlag", at + 4, word >> 31 == 0 or record.has_bit_fields)
+    names = [string_at(types.strings, it.words[0]) for it in types.records]
+    taken = {("VAR", name) for name, it in zip(names, types.records) if it.kind == "FUNC"}
+    for name, it in zip(names, types.records):
+        is_section = name[:1] == b"." and it.kind in ("VAR", "FWD", "TYPE_TAG")
+        rule("TypesNameTaken", start + it.place, not is_section and (it.kind, name) not in taken)
     return types
 
 def read_extension(elf: Elf, types: Types | None) -> list[list[Group]]:

@@ -139,6 +139,7 @@ const (
 	ErrObjectSymbolDropped                                  // the symbol is dropped, but has a visibility, a value or a name that a loader may read
 	ErrObjectExtensionGroupTwice                            // a second group of functions has the same section
 	ErrObjectFunctionLines                                  // there are source lines of a function that .BTF.ext doesn't have
+	ErrObjectTypesNameTaken                                 // a VAR has the name of a FUNC, or a VAR, FWD or TYPE_TAG has the name of a section
 )
 
 // String returns the name of the cause, for example "Opcode", or "InsnCause(999)" for a number

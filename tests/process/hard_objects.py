@@ -215,3 +215,23 @@ def variables_of_ends(count: int) -> bytes:
     places = [it for it in range(1, len(names)) if 0 < it % 61 <= 55][:count]
     words = [1, 0x0100_0000, 4, 32, *(word for it in reversed(places) for word in (it, 0x0E00_0000, 1, 1))]
     return with_types(names, words)
+
+
+def with_functions(names: bytes, variables: list[int], functions: list[int]) -> bytes:
+    """VAR and then FUNC with names at these offsets."""
+    words = [1, 0x0100_0000, 4, 32, 0, 0x0D00_0000, 0]
+    words += [word for it in variables for word in (it, 0x0E00_0000, 1, 1)]
+    words += [word for it in functions for word in (it, 0x0C00_0000, 2)]
+    return with_types(names, words)
+
+
+def long_names_of_variables(variables: int, functions: int, length: int) -> bytes:
+    """VAR of one long name, and FUNC of another one with the same length, which differ in their last bytes alone."""
+    names = b"\0" + b"n" * length + b"v\0" + b"n" * length + b"f\0"
+    return with_functions(names, [1] * variables, [length + 3] * functions)
+
+
+def variables_and_functions_of_ends(count: int) -> bytes:
+    """As many VAR as FUNC, named by the ends of one string: the shorter ones are those of FUNC."""
+    names = b"\0" + b"n" * (2 * count) + b"\0"
+    return with_functions(names, list(range(1, 1 + count)), list(range(1 + count, 1 + 2 * count)))

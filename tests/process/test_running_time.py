@@ -221,6 +221,8 @@ OBJECTS = {
     "900,000 TYPE_TAG of two long names": Object(lambda: hard_objects.type_tags(b"a" * 2_000_000 + b"1\0" + b"a" * 2_000_000 + b"2", 900_000, lambda number: number - 1), 1.0),
     "400,000 VAR with a name of 8 MB": Object(lambda: hard_objects.variables(400_000, 8_000_000), 1.0),
     "250,000 VAR named by ends": Object(lambda: hard_objects.variables_of_ends(250_000), 1.0),
+    "400,000 VAR and 300,000 FUNC of two long names": Object(lambda: hard_objects.long_names_of_variables(400_000, 300_000, 2_500_000), 1.0),
+    "a million VAR and FUNC named by ends": Object(lambda: hard_objects.variables_and_functions_of_ends(500_000), 1.0, b"ResultTooLarge"),
 }
 
 

@@ -157,6 +157,11 @@ def kind_flag(it: Edited) -> int:
     return it.put(place + 4, 4, words[1] | 1 << 31)
 
 
+def name_of(kind: str) -> Change:
+    """A VAR has the name of the first type of another kind."""
+    return lambda it: it.put(it.first_type("VAR")[0], 4, it.first_type(kind)[1][0])
+
+
 def no_types(it: Edited) -> int:
     it.row(TYPES, "name", it.section(XDP).sh_name)
     return it.row(EXTENSION, "name", it.section(EXTENSION).sh_name)
@@ -342,4 +347,6 @@ REFUSED = {
     "ExtensionGroupTwice.none": Refused("ExtensionGroupTwice", without_lines(one_section)),
     "FunctionLines": Refused("FunctionLines", later_function),
     "FunctionLines.none": Refused("FunctionLines", without_lines(later_function)),
+    "TypesNameTaken": Refused("TypesNameTaken", name_of("FUNC")),
+    "TypesNameTaken.section": Refused("TypesNameTaken", name_of("DATASEC")),
 }

@@ -162,6 +162,7 @@ class ObjectCause(KnownCause):
     SYMBOL_DROPPED = 154
     EXTENSION_GROUP_TWICE = 155
     FUNCTION_LINES = 156
+    TYPES_NAME_TAKEN = 157
 
 
 class Form(enum.IntEnum):

@@ -154,6 +154,8 @@ call::causes! {
     ExtensionGroupTwice = BPFCANON_OBJECT_CAUSE_EXTENSION_GROUP_TWICE,
     /// There are source lines of a function that `.BTF.ext` doesn't have.
     FunctionLines = BPFCANON_OBJECT_CAUSE_FUNCTION_LINES,
+    /// A VAR has the name of a FUNC, or a VAR, FWD or `TYPE_TAG` has the name of a section.
+    TypesNameTaken = BPFCANON_OBJECT_CAUSE_TYPES_NAME_TAKEN,
     ;
     /// `.BTF` has this fault by itself.
     Types(btf::Cause) below BPFCANON_OBJECT_CAUSE_FILE_TOO_LARGE

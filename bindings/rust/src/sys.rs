@@ -118,6 +118,7 @@ pub const BPFCANON_OBJECT_CAUSE_SECTIONS_TOO_LARGE: bpfcanon_object_cause = 153;
 pub const BPFCANON_OBJECT_CAUSE_SYMBOL_DROPPED: bpfcanon_object_cause = 154;
 pub const BPFCANON_OBJECT_CAUSE_EXTENSION_GROUP_TWICE: bpfcanon_object_cause = 155;
 pub const BPFCANON_OBJECT_CAUSE_FUNCTION_LINES: bpfcanon_object_cause = 156;
+pub const BPFCANON_OBJECT_CAUSE_TYPES_NAME_TAKEN: bpfcanon_object_cause = 157;
 pub type bpfcanon_object_cause = u32;
 pub const BPFCANON_GROUP_BASE32: bpfcanon_group = 1;
 pub const BPFCANON_GROUP_BASE64: bpfcanon_group = 2;

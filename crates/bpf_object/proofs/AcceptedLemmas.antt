@@ -8,7 +8,7 @@ use Rattle.bpf_words.specs.declared.Order.{Order, TheVariants.Little, TheVariant
 use Rattle.bpf_words.specs.Words.{IsBytes, word32_at}
 use Rattle.bpf_elf.specs.Names.{is_closed}
 use Rattle.bpf_elf.specs.Numbers.{order_of, count}
-use Rattle.bpf_elf.specs.Rules.{AllHold, each}
+use Rattle.bpf_elf.specs.Rules.{AllHold}
 use Rattle.bpf_elf.specs.Sections.{content, name}
 use Rattle.bpf_elf.proofs.RuleLemmas.{first_hold, rest_hold}
 use Rattle.btf_raw.specs.Header.{Cut, part, strings_at}
@@ -27,7 +27,7 @@ use Rattle.bpf_object.specs.Lines.{lines_part, pairs_rules, section_rules, exten
 use Rattle.bpf_object.specs.{ObjectFaults.Fails, Objects.Object, Objects.ObjectTypes}
 use Rattle.bpf_object.specs.SourceLines.{types_strings, extension, group_of, group_in}
 use Rattle.bpf_object.specs.Sources.{section, IsSource, HasHeader, HasPart, HasGroup, HasGroups, HasParts}
-use Rattle.bpf_object.specs.{Types.TypesSection, Types.is_order, Types.form_rules as types_form_rules, Types.records_start, Types.rules_of, TypesFaults.KeepsTypes}
+use Rattle.bpf_object.specs.{Types.TypesSection, Types.is_order, Types.form_rules as types_form_rules, Types.records_start, Types.all_rules, TypesFaults.KeepsTypes}
 use Rattle.bpf_object.proofs.{CanonRules.rule_holds, ExtensionLemmas.section_held, ObjectLemmas.fails_no_object, ReadBackStrings.closed_from_ends, TestLemmas.first_true}
 
 -- ---- an answer
@@ -104,7 +104,7 @@ same_order Big Big e = refl
 
 table_there : (x : TypesSection) (s : SectionWords) → KeepsTypes x s → (t : HasStringTable x.order x.bytes) × (t.strings ≡ s.strings)
 table_there x s keeps =
-    let form = first_hold (types_form_rules x s) (each (length s.frames) (rules_of (records_start x s) s)) keeps.rules in
+    let form = first_hold (types_form_rules x s) (all_rules (records_start x s) s) keeps.rules in
     let ordered = (rule_holds _ _ _ form).0 in
     let order = same_order s.order x.order ordered in
     let own = keeps.sections.denotes in

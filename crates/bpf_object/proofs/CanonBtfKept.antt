@@ -9,20 +9,21 @@ use Rattle.bpf_elf.proofs.RuleLemmas.{both_hold}
 use Rattle.btf_raw.specs.Header.{header, TYPES_LIMIT, STRINGS_LIMIT}
 use Rattle.btf_raw.specs.Frames.{IsFrame}
 use Rattle.btf_raw.proofs.Cuts.{header_word, five_fit}
-use Rattle.btf_types.specs.{Values.TypeRecord, Denotes.HoldsSections, Valid.IsValid, Valid.facts, Names.names, Names.record_names, Reading.record_of, Encoding.Encodes, Sections.SectionWords}
+use Rattle.btf_types.specs.{Values.TypeRecord, Denotes.HoldsSections, Valid.IsValid, Valid.facts, Names.names, Names.head_name, Names.record_names, Reading.record_of, Encoding.Encodes, Encoding.kind_number, Sections.SectionWords}
 use Rattle.btf_types.proofs.{Lists.zip_at, Members.Has}
 use Rattle.bpf_canon.specs.btf.CanonicalBtf.{record_words}
 use Rattle.bpf_object.specs.Objects.{ObjectTypes, Object}
 use Rattle.bpf_object.specs.Canonical.{strings_of, offset_of, types_strings, extension_strings, types_bytes, btf_of, btf_bytes, canonical}
 use Rattle.bpf_object.specs.Denotes.{types_of, btf_fits, types_fit}
-use Rattle.bpf_object.specs.{Types.TypesSection, Types.is_order, Types.form_rules, Types.record_rules, Types.records_start, Types.record_offset, Types.rules_of, TypesFaults.KeepsTypes}
+use Rattle.bpf_object.specs.{Types.TypesSection, Types.is_order, Types.form_rules, Types.record_rules, Types.records_start, Types.record_offset, Types.rules_of, Types.name_rules, Types.all_rules, TypesFaults.KeepsTypes}
 use Rattle.bpf_object.proofs.{ReadBackKinds.all_hold, ReadBackTests.equal_test, ReadBackTests.most_test}
 use Rattle.bpf_object.proofs.CanonValid.{ValidObject, IsSmall}
 use Rattle.bpf_object.proofs.CanonNames.{has_left, has_right}
 use Rattle.bpf_object.proofs.CanonReads.{order_back}
 use Rattle.bpf_object.proofs.CanonTypes.{types_back}
 use Rattle.bpf_object.proofs.CanonBtf.{words_of, words_encode, each_frame, types_few, records_back, holds_words}
-use Rattle.bpf_object.proofs.CanonBtfRules.{no_record, AreFree, record_kept}
+use Rattle.bpf_object.proofs.CanonBtfRules.{no_record, AreFree, are_named, record_kept}
+use Rattle.bpf_object.proofs.NameRules.{AreApartIn, apart_among, kind_in, name_in, names_kept}
 
 -- ---- the header
 
@@ -74,12 +75,21 @@ module _ (o : Order) (xs : List (List ℕ)) (v : List TypeRecord) (valid : IsVal
       let frame : IsFrame (record_words (offset_of xs) r) = subst (λ (f : List ℕ). IsFrame f) is (each_frame o xs v valid has short k [] (there k lt)) in
       let back : record_of (strings_of xs) (record_words (offset_of xs) r) ≡ r = ap (λ (f : List ℕ). record_of (strings_of xs) f) (sym is) ∙ decoded k lt in
       subst (λ (f : List ℕ). AllHold (record_rules (strings_of xs) pos f)) (sym is)
-      (record_kept xs (facts v) r (valid.each k no_record lt) (λ name h. has name (has_flat record_names v k no_record name lt h)) encodes frame back (free k lt) pos)
+      (record_kept xs (facts v) r (valid.each k no_record lt) (λ name h. has name (has_flat record_names v k no_record name lt h)) encodes frame back (free.reserved k lt) pos)
+
+  frames_apart : AreApartIn (words_of o xs v)
+  frames_apart =
+      apart_among (length v) (length frames) (λ k. kind_number (get_or v k no_record).head) (kind_in (words_of o xs v)) (λ k. head_name (get_or v k no_record).head) (name_in (words_of o xs v)) free.apart
+      (λ k lt.
+      let low : k < length v = omega (arith, lt, length-map v (record_words (offset_of xs))) in
+      let named = are_named (strings_of xs) (facts v) v frames valid.each (words_encode o xs v valid has short) k low in
+      record { to = k; there = low; kind_is = named.0; name_is = named.1 })
 
   -- a section with these bytes
   pub keeps_types : (x : TypesSection) → x.order ≡ o → x.bytes ≡ btf_of o (types_bytes o (offset_of xs) v) (strings_of xs) → length x.bytes ≤ 15728640 → KeepsTypes x (words_of o xs v)
   keeps_types x order bytes fit =
       let s = words_of o xs v in
+      let start = records_start x s in
       let types = types_bytes o (offset_of xs) v in
       let ordered : is_order o x.order ≡ true = ap (λ (p : Order). is_order o p) order ∙ same_order_test o in
       let off : (word32_at o x.bytes 8 == 0) ≡ true =
@@ -88,9 +98,10 @@ module _ (o : Order) (xs : List (List ℕ)) (v : List TypeRecord) (valid : IsVal
         size = rw (most_test (length x.bytes) 15728640 fit) refl;
         sections = subst (λ (b : List ℕ). HoldsSections b s) (sym bytes) (holds_words o xs v valid has short);
         rules =
-            both_hold (form_rules x s) (each (length frames) (rules_of (records_start x s) s)) (rw (ordered, off) refl)
-            (all_hold (length frames) (rules_of (records_start x s) s)
-            (λ k lt. record_holds (record_offset (records_start x s) s k) k (omega (arith, lt, length-map v (record_words (offset_of xs))))));
+            both_hold (form_rules x s) (all_rules start s) (rw (ordered, off) refl)
+            (both_hold (each (length frames) (rules_of start s)) (each (length frames) (name_rules start s))
+            (all_hold (length frames) (rules_of start s) (λ k lt. record_holds (record_offset start s k) k (omega (arith, lt, length-map v (record_words (offset_of xs))))))
+            (all_hold (length frames) (name_rules start s) (names_kept s start frames_apart)));
       }
 
 -- ---- the canonical file

@@ -1,6 +1,6 @@
 -- The .BTF of a canonical file keeps the further rules on its records.
 use Rattle.std.proofs.Common.{◌≡◌, ℕ, zero, suc, ◌+◌, ◌*◌, ◌<◌, ◌==◌, ◌&&◌, ◌||◌, Bool, true, false, not, List, [], ◌∷◌, ◌++◌, length, get_or, inl, inr, refl, sym, ap, subst, ◌∙◌, append_assoc, arith}
-use Rattle.std.specs.{Prelude.slice_index, List.All, List.flat_map}
+use Rattle.std.specs.{Prelude.slice_index, List.All, List.AllZip, List.flat_map}
 use Rattle.std.proofs.lemmas.Bool.{cases_Bool, ne_eqb, or_right, not-true}
 use Rattle.std.proofs.lemmas.List.{get_or_at, get_or-append-add, Elements.All-head, Elements.All-tail}
 use Rattle.bpf_elf.specs.Kinds.{is_reserved}
@@ -14,14 +14,14 @@ use Rattle.btf_types.specs.{Names.IsName, Names.kept, Names.head_name, Names.ite
 use Rattle.btf_types.specs.Encoding.{Encodes, kind_number, head_tail, record_vlen}
 use Rattle.btf_types.specs.checks.{Numbers.TypeFacts, FieldFaults.width}
 use Rattle.btf_types.specs.Sections.{SectionWords}
-use Rattle.btf_types.proofs.{Members.Has, Encoded.numbers, Encoded.info_parts, Encoded.kind_below, Encoded.vlen_below, Encoded.flag_below, EncodedItems.nothing, EncodedItems.no_tail, EncodedItems.counted}
+use Rattle.btf_types.proofs.{Lists.zip_at, Members.Has, Encoded.numbers, Encoded.info_parts, Encoded.kind_below, Encoded.vlen_below, Encoded.flag_below, EncodedItems.nothing, EncodedItems.no_tail, EncodedItems.counted}
 use Rattle.btf_types.proofs.{CheckLemmas.RoleSteps.named_words, FaultlessLemmas.FaultlessRecords.bit_fields_there, StringLemmas.Texts.Has-kept, StringLemmas.Texts.text_at_offset}
 use Rattle.bpf_canon.specs.btf.CanonicalBtf.{canonical_flag, words_of_item, record_words}
 use Rattle.bpf_canon.proofs.BtfLemmas.CanonicalEncodes.{flag_encodes}
 use Rattle.bpf_object.specs.Canonical.{strings_of, offset_of}
-use Rattle.bpf_object.specs.Types.{TypesSection, form_rules, leads_to_name, is_reserved_section, is_flagged, head_rules, item_name, item_rules, named_items, record_rules, records_start, record_offset, rules_of}
+use Rattle.bpf_object.specs.Types.{TypesSection, form_rules, leads_to_name, is_reserved_section, is_flagged, head_rules, item_name, item_rules, named_items, record_rules, records_start, record_offset, rules_of, name_rules, all_rules}
 use Rattle.bpf_object.specs.{TypesFaults.KeepsTypes, Lines.any_of}
-use Rattle.bpf_object.proofs.{CanonNames.has_mapped, CanonRules.rule_holds, ReadBackKinds.all_hold, ReadBackStrings.string_read, RecordLemmas.HasItem, RecordLemmas.item_there, RecordLemmas.some_width}
+use Rattle.bpf_object.proofs.{CanonNames.has_mapped, CanonRules.rule_holds, NameRules.AreApart, ReadBackKinds.all_hold, ReadBackStrings.string_read, RecordLemmas.HasItem, RecordLemmas.item_there, RecordLemmas.some_width}
 
 -- ---- names
 
@@ -51,14 +51,16 @@ offset_leads xs (c ∷ cs) has none =
 abbrev pub is_reserved_record : TypeRecord → Bool
 is_reserved_record r = kind_number r.head == DATASEC && is_reserved (head_name r.head)
 
+-- the name of a record
+pub name_read : (strings : List ℕ) (types : List TypeFacts) (r : TypeRecord) (f : List ℕ) → IsValidRecord types r → Encodes strings r f → string_at strings (name_word f) ≡ head_name r.head
+name_read strings types r f valid s =
+    ap (λ (off : ℕ). string_at strings off) (numbers strings types r f valid s).name ∙ string_read strings s.name_offset (head_name r.head) s.name.text
+
 pub reserved_is : (strings : List ℕ) (types : List TypeFacts) (r : TypeRecord) (f : List ℕ) → IsValidRecord types r → Encodes strings r f
     → is_reserved_section strings f ≡ is_reserved_record r
 reserved_is strings types r f valid s =
-    let n = numbers strings types r f valid s in
-    let name : string_at strings (name_word f) ≡ head_name r.head =
-    ap (λ (off : ℕ). string_at strings off) n.name ∙ string_read strings s.name_offset (head_name r.head) s.name.text in
-    ap (λ (k : ℕ). k == DATASEC && is_reserved (string_at strings (name_word f))) n.kind
-    ∙ ap (λ (x : List ℕ). kind_number r.head == DATASEC && is_reserved x) name
+    ap (λ (k : ℕ). k == DATASEC && is_reserved (string_at strings (name_word f))) (numbers strings types r f valid s).kind
+    ∙ ap (λ (x : List ℕ). kind_number r.head == DATASEC && is_reserved x) (name_read strings types r f valid s)
 
 -- ---- kind_flag
 
@@ -191,15 +193,27 @@ module _ (xs : List (List ℕ)) (types : List TypeFacts) (r : TypeRecord) (valid
 abbrev pub no_record : TypeRecord
 no_record = record { head = KPtr 0; items = [] }
 
--- no DATASEC has a reserved name
-abbrev pub AreFree : List TypeRecord → Type 0
-AreFree v = (k : ℕ) → k < length v → is_reserved_record (get_or v k no_record) ≡ false
+-- no DATASEC has a reserved name, and no other record one that is taken
+pub record AreFree (v : List TypeRecord) : Type 0 where
+  pub reserved : (k : ℕ) → k < length v → is_reserved_record (get_or v k no_record) ≡ false
+  pub apart : AreApart (length v) (λ k. kind_number (get_or v k no_record).head) (λ k. head_name (get_or v k no_record).head)
 
--- nor a record of a file that keeps the rules
+-- the kinds and names of records, in words that encode them
+pub are_named : (strings : List ℕ) (types : List TypeFacts) (v : List TypeRecord) (fs : List (List ℕ)) → All (IsValidRecord types) v → AllZip (Encodes strings) v fs → (k : ℕ) → k < length v
+    → (kind (get_or fs k []) ≡ kind_number (get_or v k no_record).head) × (string_at strings (name_word (get_or fs k [])) ≡ head_name (get_or v k no_record).head)
+are_named strings types v fs valid s k lt =
+    let r = get_or v k no_record in
+    let f = get_or fs k [] in
+    let encodes = zip_at (Encodes strings) v fs k no_record [] s lt in
+    ((numbers strings types r f (valid k no_record lt) encodes).kind, name_read strings types r f (valid k no_record lt) encodes)
+
+-- no DATASEC of a file that keeps the rules has a reserved name
 pub frame_free : (x : TypesSection) (s : SectionWords) → KeepsTypes x s → (k : ℕ) → k < length s.frames → is_reserved_section s.strings (get_or s.frames k []) ≡ false
 frame_free x s keeps k there =
     let f = get_or s.frames k [] in
     let pos = record_offset (records_start x s) s k in
-    let rules = each_holds (length s.frames) k (rules_of (records_start x s) s) there (rest_hold (form_rules x s) (each (length s.frames) (rules_of (records_start x s) s)) keeps.rules) in
+    let start = records_start x s in
+    let records = first_hold (each (length s.frames) (rules_of start s)) (each (length s.frames) (name_rules start s)) (rest_hold (form_rules x s) (all_rules start s) keeps.rules) in
+    let rules = each_holds (length s.frames) k (rules_of start s) there records in
     let head = first_hold (head_rules s.strings pos f) (each (named_items f) (item_rules s.strings pos f)) rules in
     not-true (is_reserved_section s.strings f) (rule_holds _ _ _ (rule_holds _ _ _ head).1).0

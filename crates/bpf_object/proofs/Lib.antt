@@ -49,6 +49,8 @@ pub mod CanonAcceptedSymbols
 pub mod CanonFew
 pub mod ObjectLemmas
 pub mod CanonBtf
+pub mod NameRules
+pub mod TakenLemmas
 pub mod CanonBtfRules
 pub mod CanonBtfKept
 pub mod CanonGroups

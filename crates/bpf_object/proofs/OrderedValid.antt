@@ -1,5 +1,5 @@
 -- The records of a file in their order are those that a canonical file may have.
-use Rattle.std.proofs.Common.{◌≡◌, ◌⊎◌, ℕ, zero, suc, ◌<◌, ◌≤◌, ◌==◌, ◌&&◌, true, false, List, [], ◌∷◌, length, get_or, inl, inr, refl, sym, ap, subst, ◌∙◌, arith}
+use Rattle.std.proofs.Common.{◌≡◌, ◌⊎◌, ℕ, zero, suc, ◌-◌, ◌<◌, ◌==◌, ◌&&◌, true, false, List, [], ◌∷◌, length, get_or, inl, inr, refl, sym, ap, subst, ◌∙◌, arith}
 use Rattle.std.specs.{List.All, List.AllZip, List.range_with_len}
 use Rattle.std.proofs.lemmas.Bool.{cases_lt}
 use Rattle.std.proofs.lemmas.List.{get_or-map, length-map}
@@ -15,8 +15,9 @@ use Rattle.btf_types.proofs.{Lists.zip_at, Encoded.numbers}
 use Rattle.bpf_object.specs.private.OrderedTypes.{IsRewritten}
 use Rattle.bpf_object.specs.{Types.TypesSection, Types.is_reserved_section, TypesFaults.KeepsTypes}
 use Rattle.bpf_object.specs.TypeOrder.{frame_of, new_number, renewed_frame, IsOrder, ordered}
-use Rattle.bpf_object.proofs.{CanonBtf.held_encode, ReadBackStrings.string_read}
-use Rattle.bpf_object.proofs.CanonBtfRules.{no_record, AreFree, reserved_is, frame_free}
+use Rattle.bpf_object.proofs.{CanonBtf.held_encode}
+use Rattle.bpf_object.proofs.CanonBtfRules.{no_record, is_reserved_record, AreFree, name_read, reserved_is, are_named, frame_free}
+use Rattle.bpf_object.proofs.NameRules.{IsOneOf, apart_among, kind_in, name_in, apart_kept}
 use Rattle.bpf_object.proofs.{OrderAlike.is_ranked, OrderAlike.IsAlike, OrderLayers.frame_out, Places.id_above}
 use Rattle.bpf_object.proofs.OrderedAgain.{order_length, ordered_length, ordered_again, order_of_alike}
 use Rattle.bpf_object.proofs.RenewedFrames.{renewed_name, renewed_kind}
@@ -47,7 +48,7 @@ fields_of strings types r f valid s =
     record {
       kind_is = n.kind;
       third_is = n.third;
-      name_is = ap (λ (off : ℕ). string_at strings off) n.name ∙ string_read strings s.name_offset (head_name r.head) s.name.text;
+      name_is = name_read strings types r f valid s;
       flag_is = subst (FlagEncodes r.head) (sym n.flag) s.flag_encodes;
     }
 
@@ -100,25 +101,70 @@ ordered_in_order s ids is rewritten w encodes =
     let v = records_in (ordered ids s) in
     same_order (ordered ids s) w v (facts v) rewritten.denotes.valid.each (held_encode _ (ordered ids s) rewritten) encodes (ordered_again s ids is)
 
--- and none of them is a DATASEC with a reserved name
-pub ordered_free : (x : TypesSection) (s : SectionWords) (ids : List ℕ) → KeepsTypes x s → IsOrder s ids → IsRewritten ids s → AreFree (records_in (ordered ids s))
-ordered_free x s ids keeps is rewritten k lt =
-    let w = ordered ids s in
-    let v = records_in w in
+-- a record of a file, with new numbers
+record IsRenewed (s : SectionWords) (new : ℕ → ℕ) (f : List ℕ) : Type 0 where
+  index : ℕ
+  there : index < length s.frames
+  is : f ≡ renewed_frame new (get_or s.frames index [])
+
+renewed_at : (s : SectionWords) (ids : List ℕ) → IsOrder s ids → (k : ℕ) → k < length (ordered ids s).frames → IsRenewed s (new_number ids) (get_or (ordered ids s).frames k [])
+renewed_at s ids is k there =
     let new = new_number ids in
-    let there : k < length w.frames = omega (arith, lt, length-map w.frames (record_of w.strings)) in
     let inside : k < length ids = omega (arith, there, ordered_length s ids is, order_length s ids is) in
     let id = get_or ids k 0 in
-    let f = frame_of s id in
     let above = id_above (length s.frames) ids is.permutation k inside in
-    let encodes = zip_at (Encodes w.strings) v w.frames k no_record [] (held_encode _ w rewritten) lt in
-    let at : get_or w.frames k [] ≡ renewed_frame new f = get_or-map (λ a. renewed_frame new (frame_of s a)) ids k 0 [] inside in
-    sym (reserved_is w.strings (facts v) (get_or v k no_record) (get_or w.frames k []) (rewritten.denotes.valid.each k no_record lt) encodes)
-    ∙ ap (is_reserved_section s.strings) at
-    ∙ ap (λ (n : ℕ). n == DATASEC && is_reserved (string_at s.strings (name_word (renewed_frame new f)))) (renewed_kind new f)
-    ∙ ap (λ (off : ℕ). kind f == DATASEC && is_reserved (string_at s.strings off)) (renewed_name new f)
-    ∙ free id above.0 above.1
+    record {
+      index = id - 1;
+      there = omega (arith, above.0, above.1);
+      is = get_or-map (λ a. renewed_frame new (frame_of s a)) ids k 0 [] inside ∙ ap (renewed_frame new) (found id above.0);
+    }
   where
-    free : (a : ℕ) → 0 < a → a ≤ length s.frames → is_reserved_section s.strings (frame_of s a) ≡ false
-    free zero some le = absurd (omega (arith, some))
-    free (suc i) some le = frame_free x s keeps i (omega (arith, le))
+    found : (a : ℕ) → 0 < a → frame_of s a ≡ get_or s.frames (a - 1) []
+    found zero some = absurd (omega (arith, some))
+    found (suc i) some = let at : i ≡ suc i - 1 = omega arith in ap (λ (j : ℕ). get_or s.frames j []) at
+
+module _ (x : TypesSection) (s : SectionWords) (ids : List ℕ) (keeps : KeepsTypes x s) (is : IsOrder s ids) (rewritten : IsRewritten ids s) where
+  abbrev w : SectionWords
+  w = ordered ids s
+
+  abbrev v : List TypeRecord
+  v = records_in w
+
+  abbrev new : ℕ → ℕ
+  new = new_number ids
+
+  encode : AllZip (Encodes w.strings) v w.frames
+  encode = held_encode _ w rewritten
+
+  there : (k : ℕ) → k < length v → k < length w.frames
+  there k lt = omega (arith, lt, length-map w.frames (record_of w.strings))
+
+  none_reserved : (k : ℕ) → k < length v → is_reserved_record (get_or v k no_record) ≡ false
+  none_reserved k lt =
+      let renewed = renewed_at s ids is k (there k lt) in
+      let f = get_or s.frames renewed.index [] in
+      sym (reserved_is w.strings (facts v) (get_or v k no_record) (get_or w.frames k []) (rewritten.denotes.valid.each k no_record lt) (zip_at (Encodes w.strings) v w.frames k no_record [] encode lt))
+      ∙ ap (is_reserved_section s.strings) renewed.is
+      ∙ ap (λ (n : ℕ). n == DATASEC && is_reserved (string_at s.strings (name_word (renewed_frame new f)))) (renewed_kind new f)
+      ∙ ap (λ (off : ℕ). kind f == DATASEC && is_reserved (string_at s.strings off)) (renewed_name new f)
+      ∙ frame_free x s keeps renewed.index renewed.there
+
+  named : (k : ℕ) → k < length v → IsOneOf (length s.frames) (kind_in s) (name_in s) (kind_number (get_or v k no_record).head) (head_name (get_or v k no_record).head)
+  named k lt =
+      let renewed = renewed_at s ids is k (there k lt) in
+      let f = get_or s.frames renewed.index [] in
+      let own = are_named w.strings (facts v) v w.frames rewritten.denotes.valid.each encode k lt in
+      record {
+        to = renewed.index;
+        there = renewed.there;
+        kind_is = sym own.0 ∙ ap kind renewed.is ∙ renewed_kind new f;
+        name_is = sym own.1 ∙ ap (λ (g : List ℕ). string_at s.strings (name_word g)) renewed.is ∙ ap (string_at s.strings) (renewed_name new f);
+      }
+
+  -- none of them has a reserved name, or one that is taken
+  pub ordered_free : AreFree v
+  ordered_free = record {
+    reserved = none_reserved;
+    apart =
+        apart_among (length s.frames) (length v) (kind_in s) (λ k. kind_number (get_or v k no_record).head) (name_in s) (λ k. head_name (get_or v k no_record).head) (apart_kept x s keeps) named;
+  }

@@ -1,12 +1,13 @@
 -- Rules of groups that are checked one after the other.
 use Rattle.std.proofs.Common.{◌≡◌, ℕ, ◌+◌, Option, Some, None, List, [], ◌∷◌, ◌++◌, refl, sym, subst}
-use Rattle.std.specs.Prelude.{Result, MatchResult, not}
+use Rattle.std.specs.Prelude.{Result, Ok, Err, MatchResult, not}
 use Rattle.bpf_elf.specs.Rules.{Broken, broken, rule, first_broken, AllHold, each}
-use Rattle.bpf_elf.proofs.RuleLemmas.{stays_first, after_holding}
-use Rattle.bpf_object.specs.declared.{fault.ObjectCause.ObjectCause, fault.ObjectFault.ObjectFault}
+use Rattle.bpf_elf.proofs.RuleLemmas.{stays_first, after_holding, both_hold, next_fault}
+use Rattle.bpf_object.specs.declared.{fault.ObjectCause.ObjectCause, fault.ObjectError.ObjectError, fault.ObjectFault.ObjectFault}
 use Rattle.bpf_object.specs.declared.fault.ObjectCause.TheVariants as cause
+use Rattle.bpf_object.specs.declared.fault.ObjectError.TheVariants as errors
 use Rattle.bpf_object.specs.declared.extension.Part.{Part, TheVariants.Functions, TheVariants.Relocations}
-use Rattle.bpf_object.specs.Faults.{ObjectRule, Checks}
+use Rattle.bpf_object.specs.Faults.{ObjectRule, Checks, FailsRules}
 use Rattle.bpf_object.specs.Extension.{Section, part_end, group_count}
 use Rattle.bpf_object.specs.Lines.{name_of, is_among, is_pair, pairs_rules, access_rules, accesses_rules}
 use Rattle.bpf_object.specs.private.Cursors.{rest_of}
@@ -19,6 +20,13 @@ same_checks xs ys result same checks =
 
 pub then_checks : {A : Type 0} (xs ys : List ObjectRule) (result : Result A ObjectFault) → AllHold xs → Checks ys result → Checks (xs ++ ys) result
 then_checks xs ys result h checks = same_checks (xs ++ ys) ys result (after_holding xs ys h) checks
+
+-- the same where memory may run out
+pub then_fails : {A : Type 0} (xs ys : List ObjectRule) (result : Result A ObjectError) → AllHold xs → MatchResult result (λ _. AllHold ys) (FailsRules ys)
+    → MatchResult result (λ _. AllHold (xs ++ ys)) (FailsRules (xs ++ ys))
+then_fails xs ys (Ok a) h k = both_hold xs ys h k
+then_fails xs ys (Err (errors.Fault fault)) h k = next_fault xs ys (broken fault.cause fault.pos) h k
+then_fails xs ys (Err errors.Memory) h k = tt
 
 -- ---- CO-RE relocations
 

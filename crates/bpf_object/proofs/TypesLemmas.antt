@@ -1,12 +1,16 @@
 -- Where the records of .BTF are in the file.
 use Rattle.std.proofs.Common.{◌≡◌, ℕ, zero, suc, ◌+◌, ◌-◌, ◌*◌, ◌^◌, ◌<◌, ◌≤◌, Some, List, [], ◌∷◌, length, get_or, take, refl, length-append, add-one, arith}
 use Rattle.std.specs.{Prelude.slice_get, List.All, List.concat}
+use Rattle.bpf_elf.specs.Rules.{AllHold}
 use Rattle.std.proofs.lemmas.Option.{slice_get_within, get_or_from_slice_get}
 use Rattle.std.proofs.lemmas.List.Elements.{All-head, All-tail}
 use Rattle.btf_raw.specs.Frames.{IsFrame}
 use Rattle.btf_types.specs.{Denotes.HoldsSections, Sections.SectionWords}
 use Rattle.btf_types.proofs.CheckLemmas.SectionSteps.{length-section}
-use Rattle.bpf_object.specs.{Types.record_offset, Types.record_rules, Types.rules_of}
+use Rattle.bpf_object.specs.declared.fault.ObjectError.{ObjectError}
+use Rattle.bpf_object.specs.declared.fault.ObjectError.TheVariants as errors
+use Rattle.bpf_object.specs.{Faults.FailsRules, TypesFaults.FailsTypes, TypesFaults.of_rules}
+use Rattle.bpf_object.specs.Types.{TypesSection, size_rules, record_offset, record_rules, rules_of, types_rules}
 
 words_to : (fs : List (List ℕ)) (k : ℕ) → k < length fs → length (concat (take (suc k) fs)) ≡ length (concat (take k fs)) + length (get_or fs k [])
 words_to [] k lt = absurd (omega (arith, lt))
@@ -51,3 +55,8 @@ words_of_records (f ∷ fs) each =
 
 pub few_records : (b : List ℕ) (s : SectionWords) → HoldsSections b s → length s.frames < 2 ^ 24
 few_records b s held = omega (arith, words_of_records s.frames held.each, few_words b s held)
+
+-- what an error of the further rules says
+pub rules_fail : (x : TypesSection) (s : SectionWords) (e : ObjectError) → AllHold (size_rules x) → HoldsSections x.bytes s → FailsRules (types_rules x s) e → FailsTypes x e
+rules_fail x s (errors.Fault fault) size held first = of_rules s size held first
+rules_fail x s errors.Memory size held first = tt

@@ -1,9 +1,10 @@
 -- The rules on .BTF (Linux Documentation/bpf/btf.rst section 2).
 use Rattle.std.specs.Prelude.{ℕ, ◌+◌, ◌*◌, ◌==◌, ◌||◌, ◌&&◌, not, nat_le, Bool, true, false, List, [], ◌∷◌, ◌++◌, length, take, slice_index, slice_index_or, if◌then◌else◌}
-use Rattle.std.specs.List.{concat}
+use Rattle.std.specs.{List.concat, List.list_any, Str.bytes_eq}
 use Rattle.bpf_words.specs.{declared.Order.Order, declared.Order.TheVariants.Little, declared.Order.TheVariants.Big, Words.word32_at}
 use Rattle.bpf_elf.specs.{Rules.rule, Rules.each, Names.string_at, Kinds.is_reserved}
-use Rattle.btf_raw.specs.{KindNumbers.DATASEC, Kinds.has_item_names, Kinds.is_struct, Kinds.item_words}
+use Rattle.btf_raw.specs.KindNumbers.{FWD, FUNC, VAR, DATASEC, TYPE_TAG}
+use Rattle.btf_raw.specs.Kinds.{one_of, has_item_names, is_struct, item_words}
 use Rattle.btf_raw.specs.Frames.{name_word, kind, vlen, flag}
 use Rattle.btf_types.specs.{Sections.SectionWords, checks.FieldFaults.width}
 use Rattle.bpf_object.specs.declared.fault.ObjectCause.TheVariants as cause
@@ -86,6 +87,32 @@ record_offset start s k = start + 4 * length (concat (take k s.frames))
 abbrev pub rules_of : ℕ → SectionWords → ℕ → List ObjectRule
 rules_of start s k = record_rules s.strings (record_offset start s k) (slice_index_or s.frames k [])
 
+-- ---- names by which alone libbpf looks up externs and sections of data, and takes the first type that has one
+
+-- a FUNC has this name
+abbrev pub is_func_name : SectionWords → List ℕ → Bool
+is_func_name s name = list_any (λ f. kind f == FUNC && bytes_eq (string_at s.strings (name_word f)) name) s.frames
+
+-- a name begins with `.`, like that of a section
+abbrev pub is_dotted : List ℕ → Bool
+is_dotted name = slice_index name 0 == 0x2e
+
+-- a VAR with the name of a FUNC, or a VAR, FWD or TYPE_TAG with that of a section: canonical files have these records last
+abbrev pub is_taken : SectionWords → ℕ → List ℕ → Bool
+is_taken s kind name = kind == VAR && is_func_name s name || one_of (VAR ∷ FWD ∷ TYPE_TAG ∷ []) kind && is_dotted name
+
+-- the rule on the name of record k
+abbrev pub name_rules : ℕ → SectionWords → ℕ → List ObjectRule
+name_rules start s k =
+    let f = slice_index_or s.frames k [] in
+    rule cause.TypesNameTaken (record_offset start s k) (not (is_taken s (kind f) (string_at s.strings (name_word f)))) ∷ []
+
+-- ---- the section
+
+-- all records, and then their names
+abbrev pub all_rules : ℕ → SectionWords → List ObjectRule
+all_rules start s = each (length s.frames) (rules_of start s) ++ each (length s.frames) (name_rules start s)
+
 -- the rules on a .BTF without faults of its own, in the order in which they are checked
 abbrev pub types_rules : TypesSection → SectionWords → List ObjectRule
-types_rules x s = form_rules x s ++ each (length s.frames) (rules_of (records_start x s) s)
+types_rules x s = form_rules x s ++ all_rules (records_start x s) s

@@ -15,3 +15,4 @@ pub mod AcceptedFacts
 pub mod NameRanks
 pub mod TypeSteps
 pub mod OrderedTypes
+pub mod TakenNames

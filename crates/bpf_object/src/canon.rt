@@ -89,7 +89,7 @@ fn check_own_extension<'a, A: Allocator + Copy>(
 }
 
 /// Checks .BTF, which is there.
-fn check_own_types<'a, A: Allocator>(
+fn check_own_types<'a, A: Allocator + Copy>(
     alloc: A,
     elf: &'a Elf<'_>,
 ) -> Result<CheckedFile<'a, A>, ObjectError>

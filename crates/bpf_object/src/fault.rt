@@ -80,6 +80,9 @@ pub enum ObjectCause {
     /// Reported at st_value.
     #[error("there are source lines of a function that .BTF.ext doesn't have")]
     FunctionLines,
+    /// Reported at name_off.
+    #[error("a VAR has the name of a FUNC, or a VAR, FWD or TYPE_TAG has the name of a section")]
+    TypesNameTaken,
 }
 
 /// The first rule that a file breaks, and where.

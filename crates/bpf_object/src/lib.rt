@@ -12,7 +12,7 @@
 //! has none, and `SourceLines` the line of an instruction. Then the code, from `canon` and `accepted`
 //! on:
 //!
-//! - `types`, with `type_checks`, checks .BTF.
+//! - `types` checks .BTF: its records in `type_checks`, and then their names in `taken_names`.
 //! - `extension` checks .BTF.ext: its parts in `group_checks`, functions with their lines in `pairs`
 //!   and `line_checks`, and access strings in `access_checks`. `function_checks` compares functions
 //!   with the symbols of the file. `source` and `cursors` read the section.
@@ -57,6 +57,7 @@ mod section_writer;
 mod source;
 mod source_lines;
 mod symbol_rows;
+mod taken_names;
 mod type_checks;
 mod type_keys;
 mod type_layers;

@@ -1,16 +1,17 @@
-//! The section .BTF: its size, what it is by itself, its form, and its records.
+//! The section .BTF: its size, what it is by itself, its form, its records, and their names.
 
 ghost use Rattle.std.specs.Prelude.{◌≡◌, ◌+◌, ◌*◌, ◌^◌, ◌<◌, ◌≤◌, length, MatchResult};
 ghost use Rattle.std.specs.List.{concat};
-ghost use Rattle.bpf_elf.specs.Rules.{each};
+ghost use Rattle.bpf_elf.specs.Rules.{each, AllHold};
 ghost use Rattle.btf_types.specs.Denotes.{HoldsSections};
-ghost use Rattle.bpf_object.specs.Faults.{Checks};
+ghost use Rattle.bpf_object.specs.Faults.{Checks, FailsRules};
 ghost use Rattle.bpf_object.specs.Sources.{types_section};
 ghost use Rattle.bpf_object.specs.Types as spec;
 ghost use Rattle.bpf_object.specs.Types.{TypesSection};
 ghost use Rattle.bpf_object.specs.TypesFaults.{KeepsTypes, FailsTypes, FailsBtf};
 
 use crate::fault::{ObjectCause, ObjectError, ObjectFault, require};
+use crate::taken_names::check_names;
 use crate::type_checks::check_record;
 use bpf_words::{Order, get32};
 use btf_raw::BtfFault;
@@ -103,14 +104,34 @@ fn check_records(sections: &FileSections<'_>, first: u64) -> Result<(), ObjectFa
     Ok(())
 }
 
+/// Checks the records, and then their names.
+fn check_all<A: Allocator + Copy>(
+    alloc: A,
+    sections: &FileSections<'_>,
+    first: u64,
+) -> Result<(), ObjectError>
+    requires near { first < 2 ^ 33 }
+    requires short { 4 * length (concat sections.now.frames) ≤ 2 ^ 25 }
+    ensures { let all = spec.all_rules first sections.now in
+        MatchResult result (λ _. AllHold all) (FailsRules all) }
+{
+    check_records(sections, first)?;
+    check_names(alloc, sections, first)
+}
+
 /// Checks a .BTF without faults of its own.
-fn check_sections(x: TypesSource<'_>, sections: &FileSections<'_>) -> Result<(), ObjectFault>
+fn check_sections<A: Allocator + Copy>(
+    alloc: A,
+    x: TypesSource<'_>,
+    sections: &FileSections<'_>,
+) -> Result<(), ObjectError>
     requires { HoldsSections x.bytes.now sections.now }
-    ensures { Checks (spec.types_rules (types_section x.entry) sections.now) result }
+    ensures { let rules = spec.types_rules (types_section x.entry) sections.now in
+        MatchResult result (λ _. AllHold rules) (FailsRules rules) }
 {
     check_form(x, sections)?;
     let header_len = get32(sections.order(), x.bytes, 4);
-    check_records(sections, u64::from(x.start) + u64::from(header_len))
+    check_all(alloc, sections, u64::from(x.start) + u64::from(header_len))
 }
 
 /// Checks the section .BTF of an object file, and gives its types.
@@ -124,7 +145,7 @@ fn check_sections(x: TypesSource<'_>, sections: &FileSections<'_>) -> Result<(),
 /// of `specs/Types.antt`, in their sequence. Between the size and the others,
 /// [`Types`](ObjectCause::Types) is reported with the first fault of BTF. `Memory` if memory can't
 /// be allocated.
-pub(crate) fn check_types<'a, A: Allocator>(
+pub(crate) fn check_types<'a, A: Allocator + Copy>(
     alloc: A,
     order: Order,
     header_offset: u32,
@@ -143,6 +164,6 @@ pub(crate) fn check_types<'a, A: Allocator>(
     };
     check_size(x)?;
     let file = check_btf(alloc, x)?;
-    check_sections(x, &file.sections())?;
+    check_sections(alloc, x, &file.sections())?;
     Ok(file)
 }

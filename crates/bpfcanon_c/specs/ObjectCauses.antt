@@ -64,4 +64,5 @@ object_cause_number cause.ExtensionLines = 151
 object_cause_number cause.ResultTooLarge = 152
 object_cause_number cause.ExtensionGroupTwice = 155
 object_cause_number cause.FunctionLines = 156
+object_cause_number cause.TypesNameTaken = 157
 object_cause_number (cause.Types its_own) = number_of its_own

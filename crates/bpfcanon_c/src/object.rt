@@ -39,6 +39,7 @@ fn cause_number(cause: ObjectCause) -> u32
         ObjectCause::ResultTooLarge => 152,
         ObjectCause::ExtensionGroupTwice => 155,
         ObjectCause::FunctionLines => 156,
+        ObjectCause::TypesNameTaken => 157,
     }
 }
 

@@ -108,6 +108,7 @@ object_cause_name cause.ExtensionLines = codes "ExtensionLines"
 object_cause_name cause.ResultTooLarge = codes "ResultTooLarge"
 object_cause_name cause.ExtensionGroupTwice = codes "ExtensionGroupTwice"
 object_cause_name cause.FunctionLines = codes "FunctionLines"
+object_cause_name cause.TypesNameTaken = codes "TypesNameTaken"
 
 -- one sentence for each cause
 abbrev pub object_cause_sentence : ObjectCause → List ℕ
@@ -133,3 +134,4 @@ object_cause_sentence cause.ExtensionLines = codes "functions and source lines o
 object_cause_sentence cause.ResultTooLarge = codes "the canonical file has more than 64 MiB, or more than four times the file and 64 KiB, or its .BTF more than 15 MiB"
 object_cause_sentence cause.ExtensionGroupTwice = codes "a second group of functions has the same section"
 object_cause_sentence cause.FunctionLines = codes "there are source lines of a function that .BTF.ext doesn't have"
+object_cause_sentence cause.TypesNameTaken = codes "a VAR has the name of a FUNC, or a VAR, FWD or TYPE_TAG has the name of a section"

@@ -128,6 +128,7 @@ pub fn object_cause_name(cause: ObjectCause) -> &'static str
         ObjectCause::ResultTooLarge => "ResultTooLarge",
         ObjectCause::ExtensionGroupTwice => "ExtensionGroupTwice",
         ObjectCause::FunctionLines => "FunctionLines",
+        ObjectCause::TypesNameTaken => "TypesNameTaken",
     }
 }
 
@@ -166,5 +167,7 @@ pub fn object_cause_sentence(cause: ObjectCause) -> &'static str
         ObjectCause::ExtensionGroupTwice => "a second group of functions has the same section",
         ObjectCause::FunctionLines =>
             "there are source lines of a function that .BTF.ext doesn't have",
+        ObjectCause::TypesNameTaken =>
+            "a VAR has the name of a FUNC, or a VAR, FWD or TYPE_TAG has the name of a section",
     }
 }

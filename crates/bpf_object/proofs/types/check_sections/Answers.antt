@@ -1,23 +1,22 @@
-use Rattle.std.proofs.Common.{rules, length}
-use Rattle.bpf_elf.specs.Rules.{each}
+use Rattle.std.proofs.Common.{rules}
 use Rattle.bpf_elf.proofs.RuleLemmas.{stays_first}
-use Rattle.bpf_object.specs.{Sources.types_section, Types.form_rules, Types.records_start, Types.rules_of}
-use Rattle.bpf_object.proofs.{StepLemmas.then_checks, TypesLemmas.few_words}
+use Rattle.bpf_object.specs.{Sources.types_section, Types.form_rules, Types.all_rules, Types.records_start}
+use Rattle.bpf_object.proofs.{StepLemmas.then_fails, TypesLemmas.few_words}
 use Rattle.bpf_object.proofs.types.check_sections.Goals as goal
 
 pub returns-in_err-check_form : goal.returns-in_err-check_form
-returns-in_err-check_form c =
+returns-in_err-check_form g c =
     let x = types_section c.args.x in
     let s = c.args.sections.now in
-    let here = stays_first (form_rules x s) (each (length s.frames) (rules_of (records_start x s) s)) _ c.in_err-check_form.ensures in
+    let here = stays_first (form_rules x s) (all_rules (records_start x s) s) _ c.in_err-check_form.ensures in
     search rules
 
-pub check_records-requires-clause-short : goal.check_records-requires-clause-short
-check_records-requires-clause-short c = few_words c.args.x.bytes.now c.args.sections.now c.requires
+pub check_all-requires-clause-short : goal.check_all-requires-clause-short
+check_all-requires-clause-short g c = few_words c.args.x.bytes.now c.args.sections.now c.requires
 
 pub returns : goal.returns
-returns c =
+returns g c =
     let x = types_section c.args.x in
     let s = c.args.sections.now in
-    let records = rw (c.from.ensures, c.from-2.ensures, c.get32-header_len.ensures.value, c.order.ensures.is) at c.check_records.ensures in
-    then_checks (form_rules x s) (each (length s.frames) (rules_of (records_start x s) s)) _ c.in_ok-check_form.ensures records
+    let all = rw (c.from.ensures, c.from-2.ensures, c.get32-header_len.ensures.value, c.order.ensures.is) at c.check_all.ensures in
+    then_fails (form_rules x s) (all_rules (records_start x s) s) _ c.in_ok-check_form.ensures all
