@@ -581,7 +581,9 @@ static const struct meaning object_causes[] = {
 	{ "TypesTooLarge", ".BTF has more than 15,728,640 bytes" },
 	{ "TypesOrder", "the byte order of .BTF isn't that of the file" },
 	{ "TypesLayout", "type_off of .BTF isn't 0" },
-	{ "TypesName", "a name_off of .BTF that isn't 0 leads to an empty string" },
+	{ "TypesName",
+	  "a name_off of .BTF that isn't 0 leads to an empty string, or to a name that is "
+	  "too long" },
 	{ "TypesSection", "a DATASEC has a reserved name" },
 	{ "TypesFlag", "the kind_flag of a struct or union without bit-fields isn't 0" },
 	{ "ExtensionWithoutTypes", "there is a .BTF.ext, and no .BTF" },

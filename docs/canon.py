@@ -4,8 +4,7 @@
 
 This is OBJECTS.md as a program, in its words and with its causes, and FAULTS.md for .BTF by itself.
 FILE and OUT are standard input and output if they aren't named. The status is 1 for a refused file,
-and 2 if a file can't be read or written. It needs Python 3.9 or later, and no other file.
-"""
+and 2 if a file can't be read or written. It needs Python 3.9 or later, and no other file."""
 
 from __future__ import annotations
 import argparse
@@ -15,7 +14,7 @@ from enum import Enum
 from fnmatch import fnmatchcase
 from struct import iter_unpack, pack, unpack_from
 
-MAX_FILE, MAX_TYPES, MAX_SECTION_NAME = 64 << 20, 15 << 20, 1024
+MAX_FILE, MAX_TYPES, MAX_NAME = 64 << 20, 15 << 20, 1024
 ET_REL, EM_BPF, BTF_MAGIC = 1, 247, 0xEB9F
 STB_LOCAL, STT_NOTYPE, STT_FUNC, STT_SECTION, STT_FILE = 0, 0, 2, 3, 4
 SHT_PROGBITS, SHT_SYMTAB, SHT_STRTAB, SHT_NOTE, SHT_NOBITS, SHT_REL = 1, 2, 3, 7, 8, 9
@@ -230,7 +229,7 @@ class Elf:
         for it in self.sections[1:]:
             size = 0 if it.sh_type == SHT_NOBITS else it.sh_size
             rule("SectionCut", it.place + SH_OFFSET, it.sh_offset + size <= len(self.data))
-            has_end = b"\0" in names[it.sh_name : it.sh_name + MAX_SECTION_NAME + 1]
+            has_end = b"\0" in names[it.sh_name : it.sh_name + MAX_NAME + 1]
             rule("SectionName", it.place + SH_NAME, has_end)
             kind = kind_of(name := string_at(names, it.sh_name), it)
             rule("SectionKind", it.place + SH_TYPE, kind is not Kind.UNKNOWN)
@@ -297,7 +296,7 @@ ITEM_FIELDS = {
     "DATASEC": (TYPE, "place", "length")}
 NAMELESS = {"PTR", "ARRAY", "VOLATILE", "CONST", "RESTRICT", "FUNC_PROTO"}
 NAMED = {"FWD", "TYPEDEF", "FUNC", "VAR", "DATASEC", "DECL_TAG", "TYPE_TAG"}
-MOVED = {"VAR", "DATASEC", "FWD", "TYPE_TAG"}
+MOVED, COMPARED = {"VAR", "DATASEC", "FWD", "TYPE_TAG"}, {"VAR", "FUNC", "FWD", "TYPE_TAG"}
 WITH_FLAG = {"STRUCT", "UNION", "ENUM", "FWD", "DECL_TAG", "TYPE_TAG", "ENUM64"}
 TARGETS = {"FUNC": ["FUNC_PROTO"], "DATASEC": ["VAR", "FUNC"]}
 TARGETS["DECL_TAG"] = ["STRUCT", "UNION", "FUNC", "VAR", "TYPEDEF"]
@@ -405,15 +404,16 @@ def read_types(elf: Elf) -> Types | None:
         for index, (field, word) in enumerate(zip(record.fields, record.words)):
             if field == NAME:
                 name = string_at(types.strings, word)
-                rule("TypesName", at + 4 * index, word == 0 or name != b"")
+                most = MAX_NAME if index == 0 and kind in COMPARED else MAX_TYPES
+                rule("TypesName", at + 4 * index, word == 0 or 0 < len(name) <= most)
                 rule("TypesSection", at, index > 0 or kind != "DATASEC" or not is_reserved(name))
             elif field == INFO and kind in ("STRUCT", "UNION"):
                 rule("TypesFlag", at + 4, word >> 31 == 0 or record.has_bit_fields)
-    names = [string_at(types.strings, it.words[0]) for it in types.records]
-    taken = {("VAR", name) for name, it in zip(names, types.records) if it.kind == "FUNC"}
-    for name, it in zip(names, types.records):
-        is_section = name[:1] == b"." and it.kind in ("VAR", "FWD", "TYPE_TAG")
-        rule("TypesNameTaken", start + it.place, not is_section and (it.kind, name) not in taken)
+    names = [(it.kind, string_at(types.strings, it.words[0])) for it in types.records]
+    taken = {("VAR", name) for kind, name in names if kind == "FUNC"}
+    taken |= {it for it in names if it[0] in MOVED - {"DATASEC"} and it[1][:1] == b"."}
+    for record, name in zip(types.records, names):
+        rule("TypesNameTaken", start + record.place, name not in taken)
     return types
 
 def read_extension(elf: Elf, types: Types | None) -> list[list[Group]]:
@@ -454,7 +454,7 @@ def read_part(elf: Elf, strings: bytes, at: int, end: int, words: int) -> list[G
         name, num_info = unpack_from(elf.mark + "II", elf.data, at)
         start, last = at + 8, at + 8 + 4 * words * num_info
         rule("ExtensionGroup", at, num_info > 0 and last <= end)
-        rule("ExtensionString", at, b"\0" in strings[name : name + MAX_SECTION_NAME + 1])
+        rule("ExtensionString", at, b"\0" in strings[name : name + MAX_NAME + 1])
         records = iter_unpack(f"{elf.mark}{words}I", elf.data[start:last])
         groups.append(Group(at, name, list(records)))
         at = last

@@ -120,7 +120,7 @@ const (
 	ErrObjectTypesTooLarge                                  // .BTF has more than 15,728,640 bytes
 	ErrObjectTypesOrder                                     // the byte order of .BTF isn't that of the file
 	ErrObjectTypesLayout                                    // type_off of .BTF isn't 0
-	ErrObjectTypesName                                      // a name_off of .BTF that isn't 0 leads to an empty string
+	ErrObjectTypesName                                      // a name_off of .BTF that isn't 0 leads to an empty string, or to a name that is too long
 	ErrObjectTypesSection                                   // a DATASEC has a reserved name
 	ErrObjectTypesFlag                                      // the kind_flag of a struct or union without bit-fields isn't 0
 	ErrObjectExtensionWithoutTypes                          // there is a .BTF.ext, and no .BTF

@@ -6,7 +6,7 @@ import itertools
 import struct
 from typing import Callable, Iterable, NamedTuple
 
-from docs.canon import BTF_MAGIC, EM_BPF, ET_REL, MAX_FILE, MAX_SECTION_NAME, RELOCATION, SECTION_HEADER, SYMBOL
+from docs.canon import BTF_MAGIC, EM_BPF, ET_REL, MAX_FILE, MAX_NAME, RELOCATION, SECTION_HEADER, SYMBOL
 from docs.canon import ELF_HEADER, SHF_ALLOC, SHF_EXECINSTR, SHN_UNDEF, SHT_PROGBITS, SHT_REL, SHT_STRTAB, SHT_SYMTAB
 from tests.samples import EXIT, btf
 
@@ -116,7 +116,7 @@ def ends_of_a_string(count: int) -> bytes:
 
 def long_section_names(strings: int) -> bytes:
     """As many sections as a file may have, named by the ends of strings of the greatest length."""
-    length = MAX_SECTION_NAME
+    length = MAX_NAME
     names = b"".join(b"n" * (length - 2) + b"%02x\0" % number for number in range(strings))
     places = [it for it in range(len(names)) if (it + 1) % (length + 1)]
     return object_file((Section(places[number % len(places)]) for number in range(MOST_SECTIONS - 3)), names)
@@ -150,7 +150,7 @@ def parts(names: Iterable[int]) -> dict[str, bytes]:
 
 def groups() -> bytes:
     """1.5 million groups of functions, and of lines, for sections named by the ends of strings of the greatest length."""
-    length = MAX_SECTION_NAME
+    length = MAX_NAME
     strings = b"\0" + b"".join(b"n" * (length - 4) + b"%04x\0" % number for number in range(1_500))
     return with_types(strings, **parts(it for it in range(1, len(strings)) if 0 < it % (length + 1) <= length - 3))
 
@@ -158,7 +158,7 @@ def groups() -> bytes:
 def groups_of_one_section() -> bytes:
     """1.6 million groups of functions, and of lines, that name one section with the greatest length."""
     count = (MAX_FILE - ROOM) // len(group(1, 0, 0) + group(1, 0, 0, 0, 0))
-    return with_types(b"\0" + b"n" * MAX_SECTION_NAME + b"\0", **parts([1] * count))
+    return with_types(b"\0" + b"n" * MAX_NAME + b"\0", **parts([1] * count))
 
 
 def access_strings(length: int) -> bytes:
@@ -207,6 +207,15 @@ def variables(count: int, length: int) -> bytes:
     """VAR with one long name, of an INT."""
     words = [1, 0x0100_0000, 4, 32, *(word for _ in range(count) for word in (1, 0x0E00_0000, 1, 1))]
     return with_types(b"\0" + b"v" * length + b"\0", words)
+
+
+def variables_of_equal_ends(strings: int, length: int, count: int) -> bytes:
+    """VAR named by the ends of strings that differ in their last bytes alone, the longest first: many have one length."""
+    names = b"\0" + b"".join(b"n" * (length - 4) + b"%04x\0" % number for number in range(strings))
+    words = [1, 0x0100_0000, 4, 32]
+    for number in range(count):
+        words += [1 + number % strings * (length + 1) + number // strings, 0x0E00_0000, 1, 1]
+    return with_types(names, words)
 
 
 def variables_of_ends(count: int) -> bytes:

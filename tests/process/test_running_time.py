@@ -218,10 +218,15 @@ OBJECTS = {
     "400,000 lines before those of faults": Object(lambda: hard_objects.faults_with_lines(1_000, 400_000), 0.2),
     "a chain of 900,000 TYPE_TAG": Object(lambda: hard_objects.type_tags(b"tag", 900_000, lambda number: number - 1), 1.0),
     "a loop of 900,000 TYPE_TAG": Object(lambda: hard_objects.type_tags(b"tag", 900_000, lambda number: number % 900_000 + 1), 1.0),
-    "900,000 TYPE_TAG of two long names": Object(lambda: hard_objects.type_tags(b"a" * 2_000_000 + b"1\0" + b"a" * 2_000_000 + b"2", 900_000, lambda number: number - 1), 1.0),
-    "400,000 VAR with a name of 8 MB": Object(lambda: hard_objects.variables(400_000, 8_000_000), 1.0),
+    "900,000 TYPE_TAG of two long names": Object(lambda: hard_objects.type_tags(b"a" * 1_000 + b"1\0" + b"a" * 1_000 + b"2", 900_000, lambda number: number - 1), 1.0),
+    "400,000 VAR with a name of 8 MB": Object(lambda: hard_objects.variables(400_000, 8_000_000), 1.0, b"TypesName"),
+    "400,000 VAR with a name of 1,024 bytes": Object(lambda: hard_objects.variables(400_000, 1_024), 1.0),
+    "400,000 VAR named by the ends of two strings of 4 MB": Object(lambda: hard_objects.variables_of_equal_ends(2, 4_000_000, 400_000), 1.0, b"TypesName"),
+    "400,000 VAR named by the ends of strings of 1,024 bytes": Object(
+        lambda: hard_objects.variables_of_equal_ends(8_000, 1_024, 400_000), 2.0, b"ResultTooLarge"
+    ),
     "250,000 VAR named by ends": Object(lambda: hard_objects.variables_of_ends(250_000), 1.0),
-    "400,000 VAR and 300,000 FUNC of two long names": Object(lambda: hard_objects.long_names_of_variables(400_000, 300_000, 2_500_000), 1.0),
+    "400,000 VAR and 300,000 FUNC of two long names": Object(lambda: hard_objects.long_names_of_variables(400_000, 300_000, 1_023), 1.0),
     "a million VAR and FUNC named by ends": Object(lambda: hard_objects.variables_and_functions_of_ends(500_000), 1.0, b"ResultTooLarge"),
 }
 

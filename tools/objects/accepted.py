@@ -6,7 +6,7 @@ from dataclasses import dataclass
 from typing import Callable
 
 from docs.canon import (
-    MAX_SECTION_NAME, SHF_ALLOC, SHF_EXECINSTR, SHN_ABS, SHT_FINI_ARRAY, SHT_INIT_ARRAY, SHT_NOBITS, SHT_NOTE, SHT_PROGBITS, STT_FILE, STT_SECTION,
+    MAX_NAME, SHF_ALLOC, SHF_EXECINSTR, SHN_ABS, SHT_FINI_ARRAY, SHT_INIT_ARRAY, SHT_NOBITS, SHT_NOTE, SHT_PROGBITS, STT_FILE, STT_SECTION,
 )  # fmt: skip
 from tests.objects.elf_file import FUNCTION, ElfFile, Section
 from tools.objects.edited import Edited
@@ -72,9 +72,9 @@ def as_long_as_the_file(it: Edited) -> None:
 def odd_names(it: Edited) -> None:
     """A section whose name has the most bytes, and one whose name is no text."""
     names = it.bytes_of(b".strtab")
-    it.replace(b".strtab", names + b"n" * MAX_SECTION_NAME + b"\0\xff\n\x1b\0")
+    it.replace(b".strtab", names + b"n" * MAX_NAME + b"\0\xff\n\x1b\0")
     it.row(b"license", "name", len(names))
-    it.row(b"fentry", "name", len(names) + MAX_SECTION_NAME + 1)
+    it.row(b"fentry", "name", len(names) + MAX_NAME + 1)
 
 
 def no_instructions(it: Edited) -> None:

@@ -9,7 +9,7 @@ import struct
 from typing import Callable, NamedTuple, Optional
 
 from docs.canon import (
-    MAX_FILE, MAX_SECTION_NAME, MAX_TYPES, SHF_COMPRESSED, SHN_ABS, SHN_UNDEF, SHT_NOBITS, SHT_PROGBITS, SHT_STRTAB, STB_LOCAL, STT_FILE,
+    MAX_FILE, MAX_NAME, MAX_TYPES, SHF_COMPRESSED, SHN_ABS, SHN_UNDEF, SHT_NOBITS, SHT_PROGBITS, SHT_STRTAB, STB_LOCAL, STT_FILE,
     STT_FUNC, STT_SECTION, SYMBOL,
 )  # fmt: skip
 from tests.objects.elf_file import OBJECT
@@ -57,7 +57,7 @@ def first_section(it: Edited) -> int:
 
 def long_name(it: Edited) -> int:
     names = it.bytes_of(b".strtab")
-    it.replace(b".strtab", names + b"n" * (MAX_SECTION_NAME + 1) + b"\0")
+    it.replace(b".strtab", names + b"n" * (MAX_NAME + 1) + b"\0")
     return it.row(XDP, "name", len(names))
 
 
@@ -145,6 +145,11 @@ def empty_name(it: Edited) -> int:
     """A type without a name whose name_off isn't 0."""
     offset = it.add_type_string(b"")
     return it.put(it.first_type("PTR")[0], 4, offset)
+
+
+def long_type_name(it: Edited) -> int:
+    offset = it.add_type_string(b"n" * 1025)
+    return it.put(it.first_type("VAR")[0], 4, offset)
 
 
 def reserved_name(it: Edited) -> int:
@@ -349,4 +354,5 @@ REFUSED = {
     "FunctionLines.none": Refused("FunctionLines", without_lines(later_function)),
     "TypesNameTaken": Refused("TypesNameTaken", name_of("FUNC")),
     "TypesNameTaken.section": Refused("TypesNameTaken", name_of("DATASEC")),
+    "TypesName.long": Refused("TypesName", long_type_name),
 }

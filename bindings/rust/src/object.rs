@@ -113,7 +113,7 @@ call::causes! {
     TypesOrder = BPFCANON_OBJECT_CAUSE_TYPES_ORDER,
     /// `type_off` of `.BTF` isn't 0.
     TypesLayout = BPFCANON_OBJECT_CAUSE_TYPES_LAYOUT,
-    /// A `name_off` of `.BTF` that isn't 0 leads to an empty string.
+    /// A `name_off` of `.BTF` that isn't 0 leads to an empty string, or to a name that is too long.
     TypesName = BPFCANON_OBJECT_CAUSE_TYPES_NAME,
     /// A DATASEC has a reserved name.
     TypesSection = BPFCANON_OBJECT_CAUSE_TYPES_SECTION,

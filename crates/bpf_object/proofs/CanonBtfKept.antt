@@ -75,7 +75,7 @@ module _ (o : Order) (xs : List (List ℕ)) (v : List TypeRecord) (valid : IsVal
       let frame : IsFrame (record_words (offset_of xs) r) = subst (λ (f : List ℕ). IsFrame f) is (each_frame o xs v valid has short k [] (there k lt)) in
       let back : record_of (strings_of xs) (record_words (offset_of xs) r) ≡ r = ap (λ (f : List ℕ). record_of (strings_of xs) f) (sym is) ∙ decoded k lt in
       subst (λ (f : List ℕ). AllHold (record_rules (strings_of xs) pos f)) (sym is)
-      (record_kept xs (facts v) r (valid.each k no_record lt) (λ name h. has name (has_flat record_names v k no_record name lt h)) encodes frame back (free.reserved k lt) pos)
+      (record_kept xs (facts v) r (valid.each k no_record lt) (λ name h. has name (has_flat record_names v k no_record name lt h)) encodes frame back (free.reserved k lt) (free.short k lt) pos)
 
   frames_apart : AreApartIn (words_of o xs v)
   frames_apart =

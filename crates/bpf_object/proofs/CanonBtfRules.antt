@@ -1,13 +1,14 @@
 -- The .BTF of a canonical file keeps the further rules on its records.
 use Rattle.std.proofs.Common.{◌≡◌, ℕ, zero, suc, ◌+◌, ◌*◌, ◌<◌, ◌==◌, ◌&&◌, ◌||◌, Bool, true, false, not, List, [], ◌∷◌, ◌++◌, length, get_or, inl, inr, refl, sym, ap, subst, ◌∙◌, append_assoc, arith}
-use Rattle.std.specs.{Prelude.slice_index, List.All, List.AllZip, List.flat_map}
+use Rattle.std.specs.{Prelude.nat_le, Prelude.slice_index, List.All, List.AllZip, List.flat_map}
 use Rattle.std.proofs.lemmas.Bool.{cases_Bool, ne_eqb, or_right, not-true}
 use Rattle.std.proofs.lemmas.List.{get_or_at, get_or-append-add, Elements.All-head, Elements.All-tail}
 use Rattle.bpf_elf.specs.Kinds.{is_reserved}
 use Rattle.bpf_elf.specs.Names.{string_at}
 use Rattle.bpf_elf.specs.Rules.{AllHold, each}
 use Rattle.bpf_elf.proofs.RuleLemmas.{both_hold, first_hold, rest_hold, each_holds}
-use Rattle.btf_raw.specs.{KindNumbers.DATASEC, Heads.bit, Kinds.is_struct, Kinds.item_words, Kinds.has_item_names, Names.IsWithoutNul, Names.TextAt}
+use Rattle.btf_raw.specs.KindNumbers.{FWD, FUNC, VAR, DATASEC, TYPE_TAG}
+use Rattle.btf_raw.specs.{Heads.bit, Kinds.one_of, Kinds.is_struct, Kinds.item_words, Kinds.has_item_names, Names.IsWithoutNul, Names.TextAt}
 use Rattle.btf_raw.specs.Frames.{IsFrame, kind, vlen, flag, name_word}
 use Rattle.btf_types.specs.Values.{TypeHead, KPtr, KStruct, KUnion, KEnum, KFuncProto, KDatasec, KEnum64, TypeItem, Member, EnumValue, Value64, Param, Entry, TypeRecord}
 use Rattle.btf_types.specs.{Names.IsName, Names.kept, Names.head_name, Names.item_name as name_of_item, Names.record_names, Reading.record_of, Valid.ItemOf, Valid.IsValidRecord, Valid.has_bit_fields}
@@ -19,7 +20,7 @@ use Rattle.btf_types.proofs.{CheckLemmas.RoleSteps.named_words, FaultlessLemmas.
 use Rattle.bpf_canon.specs.btf.CanonicalBtf.{canonical_flag, words_of_item, record_words}
 use Rattle.bpf_canon.proofs.BtfLemmas.CanonicalEncodes.{flag_encodes}
 use Rattle.bpf_object.specs.Canonical.{strings_of, offset_of}
-use Rattle.bpf_object.specs.Types.{TypesSection, form_rules, leads_to_name, is_reserved_section, is_flagged, head_rules, item_name, item_rules, named_items, record_rules, records_start, record_offset, rules_of, name_rules, all_rules}
+use Rattle.bpf_object.specs.Types.{TypesSection, form_rules, leads_to_name, has_long_name, is_reserved_section, is_flagged, head_rules, item_name, item_rules, named_items, record_rules, records_start, record_offset, rules_of, name_rules, all_rules}
 use Rattle.bpf_object.specs.{TypesFaults.KeepsTypes, Lines.any_of}
 use Rattle.bpf_object.proofs.{CanonNames.has_mapped, CanonRules.rule_holds, NameRules.AreApart, ReadBackKinds.all_hold, ReadBackStrings.string_read, RecordLemmas.HasItem, RecordLemmas.item_there, RecordLemmas.some_width}
 
@@ -61,6 +62,19 @@ pub reserved_is : (strings : List ℕ) (types : List TypeFacts) (r : TypeRecord)
 reserved_is strings types r f valid s =
     ap (λ (k : ℕ). k == DATASEC && is_reserved (string_at strings (name_word f))) (numbers strings types r f valid s).kind
     ∙ ap (λ (x : List ℕ). kind_number r.head == DATASEC && is_reserved x) (name_read strings types r f valid s)
+
+-- ---- long names
+
+abbrev pub is_long : ℕ → List ℕ → Bool
+is_long k name = one_of (FWD ∷ FUNC ∷ VAR ∷ TYPE_TAG ∷ []) k && not (nat_le (length name) 1024)
+
+abbrev pub is_long_record : TypeRecord → Bool
+is_long_record r = is_long (kind_number r.head) (head_name r.head)
+
+long_is : (strings : List ℕ) (types : List TypeFacts) (r : TypeRecord) (f : List ℕ) → IsValidRecord types r → Encodes strings r f → has_long_name strings f ≡ is_long_record r
+long_is strings types r f valid s =
+    ap (λ (k : ℕ). is_long k (string_at strings (name_word f))) (numbers strings types r f valid s).kind
+    ∙ ap (is_long (kind_number r.head)) (name_read strings types r f valid s)
 
 -- ---- kind_flag
 
@@ -121,7 +135,7 @@ item_place place h (x ∷ xs) (suc k) of has lt =
 
 module _ (xs : List (List ℕ)) (types : List TypeFacts) (r : TypeRecord) (valid : IsValidRecord types r) (has : (name : List ℕ) → Has (record_names r) name → Has xs name)
     (s : Encodes (strings_of xs) r (record_words (offset_of xs) r)) (frame : IsFrame (record_words (offset_of xs) r)) (back : record_of (strings_of xs) (record_words (offset_of xs) r) ≡ r)
-    (free : is_reserved_record r ≡ false) (pos : ℕ) where
+    (free : is_reserved_record r ≡ false) (short : is_long_record r ≡ false) (pos : ℕ) where
   abbrev f : List ℕ
   f = record_words (offset_of xs) r
 
@@ -156,7 +170,8 @@ module _ (xs : List (List ℕ)) (types : List TypeFacts) (r : TypeRecord) (valid
   head_kept =
       let leads : leads_to_name (strings_of xs) (name_word f) ≡ true = named (head_name r.head) (inl refl) in
       let other : not (is_reserved_section (strings_of xs) f) ≡ true = ap not (reserved_is (strings_of xs) types r f valid s ∙ free) in
-      rw (leads, other, not_flagged) refl
+      let few : not (has_long_name (strings_of xs) f) ≡ true = ap not (long_is (strings_of xs) types r f valid s ∙ short) in
+      rw (leads, few, other, not_flagged) refl
 
   named_kind : (k : ℕ) → HasItem f k → has_item_names (kind_number r.head) ≡ true
   named_kind k it = ap has_item_names (sym kind_is) ∙ it.has
@@ -193,9 +208,10 @@ module _ (xs : List (List ℕ)) (types : List TypeFacts) (r : TypeRecord) (valid
 abbrev pub no_record : TypeRecord
 no_record = record { head = KPtr 0; items = [] }
 
--- no DATASEC has a reserved name, and no other record one that is taken
+-- no DATASEC has a reserved name, and no other record one that is taken, or too long
 pub record AreFree (v : List TypeRecord) : Type 0 where
   pub reserved : (k : ℕ) → k < length v → is_reserved_record (get_or v k no_record) ≡ false
+  pub short : (k : ℕ) → k < length v → is_long_record (get_or v k no_record) ≡ false
   pub apart : AreApart (length v) (λ k. kind_number (get_or v k no_record).head) (λ k. head_name (get_or v k no_record).head)
 
 -- the kinds and names of records, in words that encode them
@@ -207,13 +223,23 @@ are_named strings types v fs valid s k lt =
     let encodes = zip_at (Encodes strings) v fs k no_record [] s lt in
     ((numbers strings types r f (valid k no_record lt) encodes).kind, name_read strings types r f (valid k no_record lt) encodes)
 
--- no DATASEC of a file that keeps the rules has a reserved name
-pub frame_free : (x : TypesSection) (s : SectionWords) → KeepsTypes x s → (k : ℕ) → k < length s.frames → is_reserved_section s.strings (get_or s.frames k []) ≡ false
-frame_free x s keeps k there =
+-- the rules on a record of a file that keeps all
+head_holds : (x : TypesSection) (s : SectionWords) → KeepsTypes x s → (k : ℕ) → k < length s.frames
+    → AllHold (head_rules s.strings (record_offset (records_start x s) s k) (get_or s.frames k []))
+head_holds x s keeps k there =
     let f = get_or s.frames k [] in
     let pos = record_offset (records_start x s) s k in
     let start = records_start x s in
     let records = first_hold (each (length s.frames) (rules_of start s)) (each (length s.frames) (name_rules start s)) (rest_hold (form_rules x s) (all_rules start s) keeps.rules) in
     let rules = each_holds (length s.frames) k (rules_of start s) there records in
-    let head = first_hold (head_rules s.strings pos f) (each (named_items f) (item_rules s.strings pos f)) rules in
-    not-true (is_reserved_section s.strings f) (rule_holds _ _ _ (rule_holds _ _ _ head).1).0
+    first_hold (head_rules s.strings pos f) (each (named_items f) (item_rules s.strings pos f)) rules
+
+-- no DATASEC of such a file has a reserved name
+pub frame_free : (x : TypesSection) (s : SectionWords) → KeepsTypes x s → (k : ℕ) → k < length s.frames → is_reserved_section s.strings (get_or s.frames k []) ≡ false
+frame_free x s keeps k there =
+    let head = head_holds x s keeps k there in
+    not-true (is_reserved_section s.strings (get_or s.frames k [])) (rule_holds _ _ _ (rule_holds _ _ _ (rule_holds _ _ _ head).1).1).0
+
+-- and no record has a name that is too long
+pub frame_short : (x : TypesSection) (s : SectionWords) → KeepsTypes x s → (k : ℕ) → k < length s.frames → has_long_name s.strings (get_or s.frames k []) ≡ false
+frame_short x s keeps k there = not-true (has_long_name s.strings (get_or s.frames k [])) (rule_holds _ _ _ (rule_holds _ _ _ (head_holds x s keeps k there)).1).0

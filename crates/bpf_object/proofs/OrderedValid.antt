@@ -16,7 +16,7 @@ use Rattle.bpf_object.specs.private.OrderedTypes.{IsRewritten}
 use Rattle.bpf_object.specs.{Types.TypesSection, Types.is_reserved_section, TypesFaults.KeepsTypes}
 use Rattle.bpf_object.specs.TypeOrder.{frame_of, new_number, renewed_frame, IsOrder, ordered}
 use Rattle.bpf_object.proofs.{CanonBtf.held_encode}
-use Rattle.bpf_object.proofs.CanonBtfRules.{no_record, is_reserved_record, AreFree, name_read, reserved_is, are_named, frame_free}
+use Rattle.bpf_object.proofs.CanonBtfRules.{no_record, is_reserved_record, is_long, is_long_record, AreFree, name_read, reserved_is, are_named, frame_free, frame_short}
 use Rattle.bpf_object.proofs.NameRules.{IsOneOf, apart_among, kind_in, name_in, apart_kept}
 use Rattle.bpf_object.proofs.{OrderAlike.is_ranked, OrderAlike.IsAlike, OrderLayers.frame_out, Places.id_above}
 use Rattle.bpf_object.proofs.OrderedAgain.{order_length, ordered_length, ordered_again, order_of_alike}
@@ -161,10 +161,16 @@ module _ (x : TypesSection) (s : SectionWords) (ids : List ℕ) (keeps : KeepsTy
         name_is = sym own.1 ∙ ap (λ (g : List ℕ). string_at s.strings (name_word g)) renewed.is ∙ ap (string_at s.strings) (renewed_name new f);
       }
 
-  -- none of them has a reserved name, or one that is taken
+  none_long : (k : ℕ) → k < length v → is_long_record (get_or v k no_record) ≡ false
+  none_long k lt =
+      let a = named k lt in
+      ap (λ (n : ℕ). is_long n (head_name (get_or v k no_record).head)) a.kind_is ∙ ap (is_long (kind_in s a.to)) a.name_is ∙ frame_short x s keeps a.to a.there
+
+  -- none of them has a reserved name, or one that is taken, or too long
   pub ordered_free : AreFree v
   ordered_free = record {
     reserved = none_reserved;
+    short = none_long;
     apart =
         apart_among (length s.frames) (length v) (kind_in s) (λ k. kind_number (get_or v k no_record).head) (name_in s) (λ k. head_name (get_or v k no_record).head) (apart_kept x s keeps) named;
   }

@@ -41,6 +41,11 @@ form_rules x s =
 abbrev pub leads_to_name : List ℕ → ℕ → Bool
 leads_to_name strings off = off == 0 || not (slice_index strings off == 0)
 
+-- The names of these are compared with each other. Any number of them may share the bytes of one string, so they have at most 1,024 bytes, as those of sections.
+abbrev pub has_long_name : List ℕ → List ℕ → Bool
+has_long_name strings f =
+    one_of (FWD ∷ FUNC ∷ VAR ∷ TYPE_TAG ∷ []) (kind f) && not (nat_le (length (string_at strings (name_word f))) 1024)
+
 -- a DATASEC with a reserved name
 abbrev pub is_reserved_section : List ℕ → List ℕ → Bool
 is_reserved_section strings f = kind f == DATASEC && is_reserved (string_at strings (name_word f))
@@ -53,6 +58,7 @@ is_flagged f = is_struct (kind f) && (not (flag f == 0) && not (any_of (vlen f) 
 abbrev pub head_rules : List ℕ → ℕ → List ℕ → List ObjectRule
 head_rules strings pos f =
     rule cause.TypesName pos (leads_to_name strings (name_word f))
+    ∷ rule cause.TypesName pos (not (has_long_name strings f))
     ∷ rule cause.TypesSection pos (not (is_reserved_section strings f))
     ∷ rule cause.TypesFlag (pos + 4) (not (is_flagged f))
     ∷ []

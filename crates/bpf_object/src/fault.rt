@@ -30,7 +30,7 @@ pub enum ObjectCause {
     #[error("type_off of .BTF isn't 0")]
     TypesLayout,
     /// Reported at name_off.
-    #[error("a name_off of .BTF that isn't 0 leads to an empty string")]
+    #[error("a name_off of .BTF that isn't 0 leads to an empty string, or to a name that is too long")]
     TypesName,
     /// Reported at name_off.
     #[error("a DATASEC has a reserved name")]

@@ -1,21 +1,25 @@
 //! The rules on a record of .BTF and on its items.
 
-ghost use Rattle.std.specs.Prelude.{◌≡◌, ◌+◌, ◌*◌, ◌^◌, ◌<◌, ◌==◌, length, position};
+ghost use Rattle.std.specs.Prelude.{◌≡◌, ◌+◌, ◌*◌, ◌^◌, ◌<◌, ◌==◌, true, length, position};
 ghost use Rattle.bpf_elf.specs.Rules.{each};
-ghost use Rattle.bpf_elf.specs.{Kinds.is_reserved as spec_reserved, Names.string_at};
+ghost use Rattle.bpf_elf.specs.Kinds.{is_reserved as spec_reserved};
+ghost use Rattle.bpf_elf.specs.Names.{is_closed, string_at as spec_string_at};
 ghost use Rattle.btf_raw.specs.Frames.{IsFrame};
 ghost use Rattle.btf_types.specs.tables.OffsetWords.{ReadsRecord};
 ghost use Rattle.bpf_object.specs.Faults.{Checks};
 ghost use Rattle.bpf_object.specs.Types as spec;
 
 use crate::fault::{ObjectCause, ObjectFault, require};
-use bpf_elf::is_reserved;
-use btf_raw::DATASEC;
+use bpf_elf::{is_reserved, string_at};
 use btf_raw::info::{has_item_names, is_struct, item_words};
+use btf_raw::{DATASEC, FUNC, FWD, TYPE_TAG, VAR};
 use btf_types::Record;
 
 /// So many bytes of a name tell whether it is reserved: the longest reserved name has 13.
 const NAME_START: usize = 16;
+
+/// The longest name, in bytes, of a record whose name is compared with others.
+const NAME_LIMIT: usize = 1_024;
 
 /// Whether a name_off is 0, or leads to a name.
 fn leads_to_name(strings: &[u8], off: u32) -> bool
@@ -23,6 +27,18 @@ fn leads_to_name(strings: &[u8], off: u32) -> bool
     ensures { result ≡ spec.leads_to_name strings.now off }
 {
     off == 0 || strings[off as usize] != 0
+}
+
+/// Whether a record whose name is compared with others has a longer name than is compared: it is the
+/// first one, so the bytes of a long string are read once.
+#[tactic(auto, using(crate::proofs::RecordLemmas::name_inside))]
+fn has_long_name(strings: &[u8], this: &Record<'_>) -> bool
+    requires closed { is_closed strings.now ≡ true }
+    requires reads { ReadsRecord strings.now this.now }
+    ensures { result ≡ spec.has_long_name strings.now this.now }
+{
+    matches!(this.kind(), FWD | FUNC | VAR | TYPE_TAG)
+        && string_at(strings, this.word(0) as usize).len() > NAME_LIMIT
 }
 
 /// Where the first NUL is.
@@ -36,7 +52,7 @@ fn first_nul(bytes: &[u8]) -> Option<usize>
 /// number of records may have it.
 fn is_reserved_at(strings: &[u8], off: u32) -> bool
     requires { off < length strings.now }
-    ensures { result ≡ spec_reserved (string_at strings.now off) }
+    ensures { result ≡ spec_reserved (spec_string_at strings.now off) }
 {
     let rest = &strings[off as usize..];
     let start = &rest[..NAME_START.min(rest.len())];
@@ -55,12 +71,15 @@ fn is_flagged(this: &Record<'_>) -> bool
 
 /// Checks the fields of a record itself.
 fn check_head(strings: &[u8], this: &Record<'_>, pos: u64) -> Result<(), ObjectFault>
+    requires closed { is_closed strings.now ≡ true }
     requires reads { ReadsRecord strings.now this.now }
     requires near { pos + 4 * length this.now < 2 ^ 64 }
     ensures { Checks (spec.head_rules strings.now pos this.now) result }
 {
     let name = this.word(0);
     require(leads_to_name(strings, name), pos, ObjectCause::TypesName)?;
+    let is_long = has_long_name(strings, this);
+    require(!is_long, pos, ObjectCause::TypesName)?;
     let is_reserved = this.kind() == DATASEC && is_reserved_at(strings, name);
     require(!is_reserved, pos, ObjectCause::TypesSection)?;
     require(!is_flagged(this), pos + 4, ObjectCause::TypesFlag)
@@ -116,6 +135,7 @@ fn check_items(strings: &[u8], this: &Record<'_>, pos: u64) -> Result<(), Object
 
 /// Checks a record at an offset of the file, and then its items.
 pub(crate) fn check_record(strings: &[u8], this: &Record<'_>, pos: u64) -> Result<(), ObjectFault>
+    requires closed { is_closed strings.now ≡ true }
     requires reads { ReadsRecord strings.now this.now }
     requires near { pos + 4 * length this.now < 2 ^ 64 }
     ensures { Checks (spec.record_rules strings.now pos this.now) result }

@@ -142,7 +142,8 @@ pub fn object_cause_sentence(cause: ObjectCause) -> &'static str
         ObjectCause::TypesTooLarge => ".BTF has more than 15,728,640 bytes",
         ObjectCause::TypesOrder => "the byte order of .BTF isn't that of the file",
         ObjectCause::TypesLayout => "type_off of .BTF isn't 0",
-        ObjectCause::TypesName => "a name_off of .BTF that isn't 0 leads to an empty string",
+        ObjectCause::TypesName =>
+            "a name_off of .BTF that isn't 0 leads to an empty string, or to a name that is too long",
         ObjectCause::TypesSection => "a DATASEC has a reserved name",
         ObjectCause::TypesFlag => "the kind_flag of a struct or union without bit-fields isn't 0",
         ObjectCause::ExtensionWithoutTypes => "there is a .BTF.ext, and no .BTF",
