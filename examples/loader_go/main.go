@@ -12,10 +12,15 @@ import (
 	"fmt"
 	"os"
 	"sort"
+	"strconv"
 
 	"bpfcanon/objects"
 	"github.com/cilium/ebpf"
 )
+
+// Objects of old releases have valid signatures: build with -ldflags "-X main.leastVersion=N", and only
+// objects of version N or later are loaded.
+var leastVersion = "0"
 
 // verify returns the canonical file of an object, which is signed.
 func verify(key ed25519.PublicKey, signature, object []byte) ([]byte, error) {
@@ -42,11 +47,33 @@ func readKey(name string) (ed25519.PublicKey, error) {
 	return nil, fmt.Errorf("%s: the key isn't a public key of Ed25519 in DER", name)
 }
 
+// checkVersion refuses objects of low versions. The version of an object is its variable in
+// .rodata.version, which is signed with the rest, or 0 if it has none.
+func checkVersion(spec *ebpf.CollectionSpec) error {
+	least, err := strconv.ParseUint(leastVersion, 10, 32)
+	if err != nil {
+		return err
+	}
+	version := uint32(0)
+	if section := spec.Maps[".rodata.version"]; section != nil && len(section.Contents) == 1 {
+		if value, ok := section.Contents[0].Value.([]byte); ok && len(value) == 4 {
+			version = spec.ByteOrder.Uint32(value)
+		}
+	}
+	if uint64(version) < least {
+		return fmt.Errorf("the object has version %d, and only %d or later is loaded", version, least)
+	}
+	return nil
+}
+
 // load prints what is in an object, and loads it into the kernel.
 func load(object []byte) error {
 	spec, err := ebpf.LoadCollectionSpecFromReader(bytes.NewReader(object))
 	if err != nil {
 		return fmt.Errorf("open: %w", err)
+	}
+	if err := checkVersion(spec); err != nil {
+		return err
 	}
 	var lines []string
 	for name := range spec.Maps {

@@ -77,6 +77,7 @@ class Loader(Place):
 
     def __init__(self, name: str, folder: Path, program: Path, prefix: Path) -> None:
         super().__init__(folder, program, prefix)
+        self.name = name
         self.page = Page.read(TOP / "examples" / name / "README.md")
         signed = self.follow(Page.read(TOP / "examples" / "README.md").commands)
         assert signed.returncode == 0, signed.stderr

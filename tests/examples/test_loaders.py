@@ -12,6 +12,7 @@ import pytest
 from tests import TOP
 from tests.examples.conftest import Done, Loader
 from tests.judges.test_pairs import line_inside
+from tests.objects.bases import kernel_headers
 from tests.objects.elf_file import ElfFile, Symbol
 from tests.objects.known import code_twice, number_of
 
@@ -157,6 +158,26 @@ def test_wrong_key_or_signature(loader: Loader, wrong: str) -> None:
     key, signature = (next((it for it in names if it.endswith(end)), right) for end, right in ((".der", "public.der"), (".sig", "count.sig")))
     assert names and {key, signature} >= {*names}
     assert_refused(loader.load("count.o", key, signature))
+
+
+# How a loader of objects of version 2 and later is built, from the command with which a page builds one of all objects.
+NEWER: dict[str, Callable[[str], str]] = {
+    "loader_c": lambda build: build.replace("-o loader", "-DLEAST_VERSION=2 -o newer"),
+    "loader_go": lambda build: build.replace("-o ../../loader", "-ldflags '-X main.leastVersion=2' -o ../../newer"),
+    "loader_rust": lambda build: f"LEAST_VERSION=2 {build}; cp examples/loader_rust/target/debug/loader newer; {build}",
+}
+
+
+def test_lower_version(loader: Loader) -> None:
+    """A signature never expires, so an attacker can offer an old release."""
+    built = loader.follow(NEWER[loader.name](loader.page.commands.splitlines()[0]))
+    assert built.returncode == 0, built.stderr
+    for version, is_taken in ((1, False), (2, True), (1 << 24, True)):
+        loader.compile(TOP / "examples/project/count.c", "version.o", f"-DVERSION={version}", f"-I{kernel_headers()}")
+        loader.sign("version.o", "version.sig")
+        done = loader.run(loader.folder / "newer", "public.der", "version.sig", "version.o")
+        assert is_loaded(done) if is_taken else "has version 1" in done.stderr and done.stdout == "", done.stderr
+    assert "has version 0" in loader.run(loader.folder / "newer", "public.der", "count.sig", "count.o").stderr
 
 
 def test_usage(loader: Loader) -> None:
