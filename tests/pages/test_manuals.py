@@ -1,0 +1,119 @@
+"""The manual pages and the completions have the commands, options, values and calls that the sources declare."""
+
+import os
+import re
+import subprocess
+
+import pytest
+
+from tests import TOP
+from tests.command import SECONDS
+from tests.commands import OPTIONS
+from tests.needs import need
+from tests.process.test_limits import BTF_LIMIT
+
+HEADER = (TOP / "capi" / "bpfcanon.h").read_text()
+OBJECT, REVIEW = (
+    (TOP / path).read_text() for path in ("crates/bpfcanon_object/src/words.rt", "bindings/python/bpfcanon/review/cli.py")
+)
+FORMATS = re.search(r"pub const NAMES: .*? = \[(.*)\];", (TOP / "crates/bpfcanon_object/src/check.rt").read_text())[1]
+GROUPS = re.findall(r'Group::\w+ => "(\w+)"', (TOP / "crates/bpf_insn/src/group.rt").read_text())
+
+
+def long_options(pattern, source):
+    """The commands of a source, each with its long options."""
+    return {name: [f"--{it}" for it in re.findall(r'(?:long\("|"--)(\w+)"', body)] for body, name in re.findall(pattern, source, re.DOTALL)}
+
+
+# The commands of each program with their options, and the values of options.
+COMMANDS = {
+    "bpfcanon": OPTIONS,
+    "bpfcanon-object": long_options(r'fn \w+_command(?=(.*?\n\}))(?=.*?Command::new\(alloc, "(\w+)")', OBJECT),
+    "bpfcanon-review": long_options(r'made = add(?=(.*?)(?:made = |return ))\("(\w+)"', REVIEW),
+}
+VALUES = dict.fromkeys(("--order", "--to", "--other"), ["big", "little"]) | {"--format": re.findall(r"\w+", FORMATS), "--target": GROUPS}
+PAGES = {it.name: it for it in sorted(TOP.glob("man/*.[13]"))}
+
+
+def complete(name, *words):
+    """What bash completes the last of some words to."""
+    line = " ".join([name, *(it or "''" for it in words)])
+    function = "_" + name.replace("-", "_")
+    script = f'. "$0"; COMP_WORDS=({line}); COMP_CWORD={len(words)}; {function}; printf "%s\\n" "${{COMPREPLY[@]}}"; complete -p {name} >&2'
+    done = subprocess.run(["bash", "-uc", script, TOP / "completions" / "bash" / name], capture_output=True, text=True, timeout=SECONDS)
+    assert done.stderr.endswith(f"-F {function} {name}\n")
+    return set(done.stdout.split())
+
+
+@pytest.mark.parametrize("name", COMMANDS)
+def test_bash(name):
+    """--help and --version of bpfcanon are refused."""
+    help = set() if name == "bpfcanon" else {"--help"}
+    assert complete(name, "") == {*COMMANDS[name], *help} | ({"--version"} if help else set())
+    for command, options in COMMANDS[name].items():
+        assert complete(name, command, "--" if options or help else "") == {*options} | help
+        for option in options:
+            assert option not in VALUES or complete(name, command, option, "") == {*VALUES[option]}
+
+
+@pytest.mark.parametrize("name", COMMANDS)
+def test_zsh(name):
+    """The commands with their descriptions, the arguments of each, and the values of options."""
+    text = (TOP / "completions" / "zsh" / f"_{name}").read_text()
+    arms = re.findall(r"^    (\w[\w|-]*)\) _arguments (.*) ;;$", text, re.MULTILINE)
+    found = {command: {f"--{it}" for it in re.findall(r'"\$(\w+)"', arguments)} - {"--help", "--files"} for commands, arguments in arms for command in commands.split("|")}
+    assert {command: {*options} for command, options in COMMANDS[name].items() if options or command in found} == found
+    assert set(re.findall(r"^    '([\w-]+):", text, re.MULTILINE)) == {*COMMANDS[name]}
+    for option in {it for options in COMMANDS[name].values() for it in options}:
+        assert f"local {option[2:]}='{option}[" in text and all(re.search(rf"\b{value}\b", text) for value in VALUES.get(option, ()))
+
+
+def shown(page):
+    """What man prints of a page, in which lines are long. It has no warning."""
+    need("man")
+    how = {"env": os.environ | {"MANWIDTH": "500", "LC_ALL": "C"}, "capture_output": True, "timeout": SECONDS}
+    done = subprocess.run(["man", "--warnings", "-l", page], **how)
+    assert (done.returncode, done.stderr) == (0, b"")
+    return done.stdout.decode()
+
+
+@pytest.mark.parametrize("name", COMMANDS)
+def test_options(name):
+    """A page names the commands, their options and the values of these, and no other option."""
+    page = re.sub(r"\b(?:clang|git|llvm-obj\w+|sha256sum) .*", "", shown(PAGES[f"{name}.1"]))
+    options = {it for options in COMMANDS[name].values() for it in options}
+    assert set(re.findall(r"(?<![\w-])--\w+", page)) - {"--help", "--version"} == options
+    words = [*COMMANDS[name], *(value for it in options for value in VALUES.get(it, ()))]
+    assert [it for it in words if not re.search(rf"(?<!\w){it}\b", page)] == []
+
+
+def test_messages():
+    """The page of bpfcanon names each of its messages."""
+    sources = [(TOP / "crates" / "bpfcanon" / "src" / it).read_text() for it in ("outcome.rt", "main.rt")]
+    messages = re.findall(r'report_line\(faults, b"([a-z ]+)\\n"', "\n".join(sources))
+    page = shown(PAGES["bpfcanon.1"])
+    assert len(messages) > 5 and [it for it in messages if it not in page] == []
+
+
+@pytest.mark.parametrize("name", PAGES)
+def test_page(name):
+    """A page has the version, and names the others."""
+    page = shown(PAGES[name])
+    assert f'"bpfcanon {re.search("BPFCANON_VERSION .(.*).$", HEADER, re.MULTILINE)[1]}"' in PAGES[name].read_text()
+    last = page.partition("SEE ALSO")[2]
+    assert [it for it in PAGES if it != name and not re.search(rf"(?<![\w-]){it[:-2]}\({it[-1]}\)", last)] == []
+
+
+def declared(text):
+    """The calls that a header or a page declares, and the fields of structs, with single blanks."""
+    calls = re.findall(r"^ *((?:bpfcanon_\w+|void|const char) \*?bpfcanon_\w+\([^;]*;)", text, re.MULTILINE)
+    structs = re.findall(r"typedef struct (\w+) \{(.*?)\} \1;", text, re.DOTALL)
+    return sorted(" ".join(it.split()) for it in calls), {name: re.findall(r"(\w+) (\w+);", body) for name, body in structs}
+
+
+def test_library():
+    """The page of section 3 declares the calls of the header, and the structs that it shows."""
+    (calls, structs), (right_calls, right_structs) = declared(shown(PAGES["bpfcanon.3"])), declared(HEADER)
+    assert calls == right_calls and "bpfcanon_answer" in structs
+    assert structs == {it: right_structs[it] for it in structs}
+    assert f"\n#define BPFCANON_BTF_MAX {BTF_LIMIT}\n" in HEADER
