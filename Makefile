@@ -11,7 +11,7 @@ MAKEFLAGS += --no-print-directory
 .SHELLFLAGS = -o pipefail -c
 PREFIX ?= /usr/local
 LIBDIR ?= lib
-PYTHON = $(shell tests/python_with pytest xdist markdown_it elftools || tests/python_with pytest xdist markdown_it || echo python3)
+PYTHON = $(shell tests/python_with pytest xdist markdown_it elftools hypothesis || tests/python_with pytest xdist markdown_it || echo python3)
 PYTEST = $(PYTHON) -m pytest -n $(WORKERS) --dist loadgroup --durations=5
 WORKERS ?= $(shell nproc)
 # The crates of the commands, and what rt builds of them.

@@ -7,8 +7,8 @@
     languages/    the packages for Go, Rust and Python
     c_interface/  the C library
     examples/     follow the pages of examples/, and try to deceive the loaders there
-    judges/       compare canonical object files with what libbpf, cilium/ebpf, the kernel and other tools say of the originals
-    objects/      object files changed with knowledge of ELF and BTF, which the judges use too, and what bpfcanon-review shows of them
+    objects/      compare canonical object files with what libbpf, cilium/ebpf, the kernel and other tools say of the originals, also of
+                  files that hypothesis changes with knowledge of ELF and BTF; and what bpfcanon-review shows of them
     released/     make a release, and use its files from outside the tree
 """
 

@@ -15,6 +15,7 @@ MODULES, GOCODE, CRATES = "/usr/lib/python3/dist-packages", "/usr/share/gocode",
 FILES = {
     "python3-yaml": f"{MODULES}/yaml",
     "elftools": f"{MODULES}/elftools",
+    "hypothesis": f"{MODULES}/hypothesis",
     "distributed": f"{MODULES}/distributed",
     "ensurepip": "/usr/lib/python3.*/ensurepip",
     "setuptools": f"{MODULES}/setuptools",
@@ -60,7 +61,8 @@ def need(*tools, path=None):
     missing = [tool for tool in tools if not is_there(tool, path)]
     if missing:
         offered = [tool for tool in missing if os.environ.get("CI") == "true" and is_offered(tool)]
-        (pytest.fail if offered else pytest.skip)(f"no {', no '.join(missing)}" + (f", though apt has {', '.join(offered)}" if offered else ""))
+        reason = f"no {', no '.join(missing)}" + (f", though apt has {', '.join(offered)}" if offered else "")
+        pytest.fail(reason) if offered else pytest.skip(reason, allow_module_level=True)
 
 
 def built(path, target):

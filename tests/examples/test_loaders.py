@@ -11,10 +11,9 @@ import pytest
 
 from tests import TOP
 from tests.examples.conftest import Done, Loader
-from tests.judges.test_pairs import line_inside
-from tests.objects.bases import kernel_headers
 from tests.objects.elf_file import ElfFile, Symbol
-from tests.objects.known import code_twice, number_of
+from tests.objects.files import kernel_headers
+from tests.objects.known import code_twice, line_inside, number_of
 
 SOURCES = {"two": Path(__file__).parent / "two.c", "plain": TOP / "tests" / "objects" / "sources" / "plain.c"}
 

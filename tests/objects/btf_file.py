@@ -2,9 +2,12 @@
 
 from __future__ import annotations
 
+import contextlib
 import struct
 from dataclasses import dataclass
 from typing import Iterator
+
+from tests.objects.elf_file import ElfFile
 
 # Words after the common three of a type, words of an item, and whether an item begins with a name, by the number of the kind.
 KINDS = {
@@ -66,16 +69,11 @@ class Btf:
 
 
 @dataclass
-class Record:
-    words: list[int]
-
-
-@dataclass
 class Group:
-    """The records of one section, whose name is a string of .BTF."""
+    """The records of one section, each a list of words. The name of the section is a string of .BTF."""
 
     name: int
-    records: list[Record]
+    records: list[list[int]]
 
 
 @dataclass
@@ -85,6 +83,31 @@ class Part:
     word: str
     size: int  # of a record, in bytes
     groups: list[Group]
+
+    @classmethod
+    def read(cls, word: str, content: bytes, sign: str) -> Part:
+        if not content:
+            return cls(word, 4 * RECORDS[word][0], [])
+        (size,) = struct.unpack_from(sign + "I", content)
+        groups, place = [], 4
+        while place < len(content):
+            name, count = struct.unpack_from(sign + "II", content, place)
+            place += 8
+            if size < 4 or count * size > len(content) - place:
+                raise struct.error("records past the end")
+            rows = [content[place + size * number :][:size] for number in range(count)]
+            groups.append(Group(name, [list(struct.unpack(f"{sign}{size // 4}I", it)) for it in rows]))
+            place += size * count
+        return cls(word, size, groups)
+
+    def write(self, sign: str) -> bytes:
+        words = [self.size] if self.groups else []
+        for it in self.groups:
+            words += [it.name, len(it.records), *(word for record in it.records for word in record)]
+        return struct.pack(f"{sign}{len(words)}I", *words)
+
+    def records(self) -> list[list[int]]:
+        return [record for group in self.groups for record in group.records]
 
 
 @dataclass
@@ -96,49 +119,37 @@ class Extension:
     def read(cls, content: bytes, sign: str) -> Extension:
         (header,) = struct.unpack_from(sign + "I", content, 4)
         places = struct.unpack_from(sign + "IIIIII", content, 8) if header >= 32 else (*struct.unpack_from(sign + "IIII", content, 8), 0, 0)
-        pairs = zip((FUNCTIONS, LINES, CORE), places[::2], places[1::2])
-        return cls(sign, [read_part(word, content[header + offset :][:length], sign) for word, offset, length in pairs])
+        pairs = zip(RECORDS, places[::2], places[1::2])
+        return cls(sign, [Part.read(word, content[header + offset :][:length], sign) for word, offset, length in pairs])
 
     def part(self, word: str) -> Part:
         return next(it for it in self.parts if it.word == word)
 
     def write(self) -> bytearray:
-        written = [write_part(it, self.sign) for it in self.parts]
+        written = [it.write(self.sign) for it in self.parts]
         fields, offset = [], 0
         for content in written:
             fields += [offset, len(content)]
             offset += len(content)
         return bytearray(struct.pack(self.sign + "HBBIIIIIII", 0xEB9F, 1, 0, 32, *fields) + b"".join(written))
 
-    def strings(self) -> Iterator[tuple[list[int], int]]:
-        """Each list of words with the place in it of an offset of a string."""
-        for part in self.parts:
-            for group in part.groups:
-                for record in group.records:
-                    yield from ((record.words, it) for it in RECORDS[part.word][1])
+    def groups(self) -> list[Group]:
+        return [group for part in self.parts for group in part.groups]
 
 
-def read_part(word: str, content: bytes, sign: str) -> Part:
-    if not content:
-        return Part(word, 4 * RECORDS[word][0], [])
-    (size,) = struct.unpack_from(sign + "I", content)
-    groups, place = [], 4
-    while place < len(content):
-        name, count = struct.unpack_from(sign + "II", content, place)
-        place += 8
-        if size < 4 or count * size > len(content) - place:
-            raise struct.error("records past the end")
-        rows = [content[place + size * number :][:size] for number in range(count)]
-        groups.append(Group(name, [Record(list(struct.unpack(f"{sign}{size // 4}I", it))) for it in rows]))
-        place += size * count
-    return Part(word, size, groups)
+@contextlib.contextmanager
+def types_of(file: ElfFile) -> Iterator[Btf]:
+    """The types of a file, which are written again at the end. IndexError says that it has none."""
+    section = file.sections[file.indices(b".BTF")[0]]
+    btf = Btf.read(section.content, file.sign)
+    yield btf
+    section.content = btf.write()
 
 
-def write_part(part: Part, sign: str) -> bytes:
-    if not part.groups:
-        return b""
-    written = [struct.pack(sign + "I", part.size)]
-    for group in part.groups:
-        written.append(struct.pack(sign + "II", group.name, len(group.records)))
-        written += [struct.pack(f"{sign}{len(it.words)}I", *it.words) for it in group.records]
-    return b"".join(written)
+@contextlib.contextmanager
+def records_of(file: ElfFile) -> Iterator[Extension]:
+    """Likewise its records of functions, source lines and CO-RE."""
+    section = file.sections[file.indices(b".BTF.ext")[0]]
+    extension = Extension.read(section.content, file.sign)
+    yield extension
+    section.content = extension.write()

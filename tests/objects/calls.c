@@ -1,5 +1,5 @@
 #define _GNU_SOURCE
-#include "calls.h"
+#include "loaded.h"
 
 #include <errno.h>
 #include <fcntl.h>
@@ -8,9 +8,6 @@
 #include <string.h>
 #include <sys/mman.h>
 #include <unistd.h>
-
-#include "types.h"
-#include "view.h"
 
 enum { FIRST_DESCRIPTOR = 16, MAX_DESCRIPTORS = 1024, MAPPED = 1 << 20 };
 

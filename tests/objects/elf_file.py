@@ -4,7 +4,7 @@ from __future__ import annotations
 
 import struct
 from dataclasses import dataclass, field, replace
-from typing import Iterator, Optional
+from typing import Iterator, Optional, Sequence
 
 PROGBITS, SYMTAB, STRTAB, RELA, NOTE, NOBITS, REL, ADDRSIG = 1, 2, 3, 4, 7, 8, 9, 0x6FFF4C03
 WRITE, ALLOC, EXECINSTR = 1, 2, 4
@@ -108,10 +108,6 @@ class ElfFile:
         fields = (section.name, section.type, section.flags, section.address, offset, size)
         return struct.pack(self.sign + ROW, *fields, section.link, section.info, section.alignment, section.entry_size)
 
-    def copy(self) -> ElfFile:
-        sections = [replace(it, content=bytearray(it.content)) for it in self.sections]
-        return replace(self, sections=sections, layout=list(self.layout))
-
     def string(self, table: int, offset: int) -> bytes:
         content = self.sections[table].content
         return bytes(content[offset : content.find(b"\0", offset)])
@@ -161,16 +157,14 @@ class ElfFile:
         rows = (form.pack(it.offset, it.symbol << 32 | it.type) for it in relocations)
         self.sections[index].content = bytearray(b"".join(rows))
 
-    def renumber_symbols(self, symbols: list[Symbol], number_of: dict[int, int]) -> None:
-        """Sets the symbols, and the numbers of symbols in all relocations; those of symbols that are gone become 0."""
-        self.set_symbols(symbols)
-        for index in self.of_type(REL):
-            relocations = self.relocations(index)
-            for relocation in relocations:
-                relocation.symbol = number_of.get(relocation.symbol, 0)
-            self.set_relocations(index, relocations)
+    def reorder_symbols(self, order: Sequence[int], *added: Symbol, follows: bool = True) -> None:
+        """Puts the symbols, and some that are added behind them, into a sequence of their numbers, which relocations follow."""
+        symbols, number_of = [*self.symbols(), *added], {old: new for new, old in enumerate(order)}
+        self.set_symbols([symbols[it] for it in order])
+        for index in self.of_type(REL) if follows else ():
+            self.set_relocations(index, [replace(it, symbol=number_of.get(it.symbol, 0)) for it in self.relocations(index)])
 
-    def reorder_sections(self, order: list[int]) -> None:
+    def reorder_sections(self, order: Sequence[int]) -> None:
         """Puts the sections into a sequence of their indices, and sets every index of a section."""
         index_of = {old: new for new, old in enumerate(order)}
         self.sections = [self.sections[it] for it in order]

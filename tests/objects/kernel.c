@@ -1,4 +1,4 @@
-#include "kernel.h"
+#include "loaded.h"
 
 #include <bpf/btf.h>
 #include <errno.h>
@@ -8,8 +8,6 @@
 #include <stdlib.h>
 #include <string.h>
 #include <sys/syscall.h>
-
-#include "calls.h"
 
 const char KERNEL_OPTIONS[] = "CONFIG_HZ=250\nCONFIG_BPF_SYSCALL=y\nCONFIG_MODULE_SIG=m\nCONFIG_DEFAULT_HOSTNAME=\"(none)\"\n";
 static char symbols[] = "ffffffff81000010 T bpf_fentry_test1\nffffffff81000020 D bpf_prog_active\nffffffff81000030 T schedule\n";

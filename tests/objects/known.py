@@ -1,14 +1,14 @@
-"""Differences that a key once missed, or that a weaker one would miss: libbpf tells each changed object from its base, and so must keys."""
+"""Differences that a key once missed, or that a weaker one would miss: some loader tells each changed object from its base, and so must keys."""
 
 from __future__ import annotations
 
 from dataclasses import replace
-from typing import Callable, Iterable, NamedTuple
+from pathlib import Path
+from typing import Callable, NamedTuple
 
-from tests.objects.btf_changes import btf_of, extension_of, set_btf, set_extension
-from tests.objects.btf_file import CORE, FUNCTIONS, LINES, Group, Record
-from tests.objects.changes import Base
-from tests.objects.elf_file import ALLOC, EXECINSTR, FUNCTION, GLOBAL, PROGBITS, STRTAB, WEAK, ElfFile, Relocation, Section
+from tests.objects import files
+from tests.objects.btf_file import CORE, FUNCTIONS, LINES, Group, records_of, types_of
+from tests.objects.elf_file import ALLOC, EXECINSTR, FUNCTION, GLOBAL, PROGBITS, STRTAB, WEAK, ElfFile, Relocation, Section, Symbol
 
 Edit = Callable[[ElfFile], None]
 STRUCT, FUNC_PROTO, DATASEC = 4, 13, 15
@@ -103,10 +103,19 @@ def slots(change: Callable[[Relocation, Relocation], list[Relocation]]) -> Edit:
 
 def groups(word: str, change: Callable[[list[Group]], object]) -> Edit:
     def edit(file: ElfFile) -> None:
-        extension = extension_of(file)
-        assert extension
-        change(extension.part(word).groups)
-        set_extension(file, extension)
+        with records_of(file) as extension:
+            change(extension.part(word).groups)
+
+    return edit
+
+
+def labels(place: bytes, *rows: tuple[bytes, int, int]) -> Edit:
+    """Add local symbols without a type: the name, value and size of each."""
+
+    def edit(file: ElfFile) -> None:
+        index, symbols = file.indices(place)[0], file.symbols()
+        added = [Symbol(file.add_string(file.symbol_names, name), 0, 0, index, value, size) for name, value, size in rows]
+        file.set_symbols([*symbols, *added])
 
     return edit
 
@@ -146,8 +155,7 @@ def symbols_twice(file: ElfFile) -> None:
     symbols = file.symbols()
     number = number_of(file, b"threshold")
     twin = replace(symbols[number], value=symbols[number].value + 4)
-    order = [*range(number), len(symbols), *range(number, len(symbols))]
-    file.renumber_symbols([[*symbols, twin][it] for it in order], {old: new for new, old in enumerate(order)})
+    file.reorder_symbols([*range(number), len(symbols), *range(number, len(symbols))], twin)
 
 
 def alias(file: ElfFile) -> None:
@@ -167,17 +175,21 @@ def split(functions: list[Group]) -> None:
 def at_one_place(core: list[Group]) -> None:
     """libbpf keeps the sequence of records of one instruction."""
     first, second = core[0].records[:2]
-    first.words[0], core[0].records[:2] = second.words[0], [second, first]
+    first[0], core[0].records[:2] = second[0], [second, first]
 
 
 def longer_records(file: ElfFile) -> None:
-    extension = extension_of(file)
-    assert extension
-    part = extension.part(FUNCTIONS)
-    part.size += 4
-    for group in part.groups:
-        group.records = [Record([*it.words, 7]) for it in group.records]
-    set_extension(file, extension)
+    with records_of(file) as extension:
+        part = extension.part(FUNCTIONS)
+        part.size += 4
+        for group in part.groups:
+            group.records = [[*it, 7] for it in group.records]
+
+
+def line_inside(file: ElfFile) -> None:
+    """The text of a source line begins inside a string."""
+    with records_of(file) as extension:
+        extension.part(LINES).groups[0].records[0][2] += 1
 
 
 def functions_without_length(file: ElfFile) -> None:
@@ -188,51 +200,44 @@ def functions_without_length(file: ElfFile) -> None:
 
 def no_name_elsewhere(file: ElfFile) -> None:
     """libbpf gives a parameter of a kernel function a name if its offset is 0, and not if it is that of another empty string."""
-    btf = btf_of(file)
-    assert btf
-    empty = btf.strings.find(b"\0", 1)
-    for place in btf.types():
-        if btf.kind(place) == FUNC_PROTO:
-            for parameter in range(place + 3, place + 3 + 2 * (btf.words[place + 1] & 0xFFFF), 2):
-                btf.words[parameter] = btf.words[parameter] or empty
-    set_btf(file, btf)
+    with types_of(file) as btf:
+        empty = btf.strings.find(b"\0", 1)
+        for place in btf.types():
+            if btf.kind(place) == FUNC_PROTO:
+                for parameter in range(place + 3, place + 3 + 2 * (btf.words[place + 1] & 0xFFFF), 2):
+                    btf.words[parameter] = btf.words[parameter] or empty
 
 
 def flag_without_bit_fields(file: ElfFile) -> None:
     """kind_flag says that the offsets of members have sizes of bit-fields, which are 0 here: the kernel then checks integers otherwise."""
-    btf = btf_of(file)
-    assert btf
-    place = next(it for it in btf.types() if btf.words[it + 1] >> 24 == STRUCT)
-    btf.words[place + 1] |= KIND_FLAG
-    set_btf(file, btf)
+    with types_of(file) as btf:
+        btf.words[next(it for it in btf.types() if btf.words[it + 1] >> 24 == STRUCT) + 1] |= KIND_FLAG
 
 
 def types_swapped(file: ElfFile) -> None:
-    btf = btf_of(file)
-    assert btf
-    btf.sign = ">"
-    set_btf(file, btf)
+    with types_of(file) as btf:
+        btf.sign = ">"
 
 
 def strings_first(file: ElfFile) -> None:
     """libbpf refuses strings before types."""
-    btf = btf_of(file)
-    assert btf
-    content = bytes(btf.write())
-    types, strings = content[24 : 24 + 4 * len(btf.words)], content[24 + 4 * len(btf.words) :]
-    places = [len(strings) + -len(strings) % 4, len(types), 0, len(strings) + -len(strings) % 4]
-    header = content[:8] + b"".join(it.to_bytes(4, "little") for it in places)
-    file.sections[found(file, b".BTF")].content = bytearray(header + strings + b"\0" * (-len(strings) % 4) + types)
+    with types_of(file) as btf:
+        content, size = bytes(btf.write()), 24 + 4 * len(btf.words)
+    strings = content[size:] + b"\0" * (-len(content[size:]) % 4)
+    header = content[:8] + b"".join(it.to_bytes(4, "little") for it in (len(strings), size - 24, 0, len(strings)))
+    file.sections[found(file, b".BTF")].content = bytearray(header + strings + content[24:size])
 
 
 def sized_by_names(file: ElfFile) -> None:
     """libbpf takes the size of a DATASEC from the section with its name, which may be any."""
-    btf = btf_of(file)
-    assert btf
-    place = next(it for it in btf.types() if btf.kind(it) == DATASEC and btf.string(btf.words[it]) == b"license")
-    btf.words[place], btf.words[place + 2] = btf.add_string(b".strtab"), 0
-    set_btf(file, btf)
+    with types_of(file) as btf:
+        place = next(it for it in btf.types() if btf.kind(it) == DATASEC and btf.string(btf.words[it]) == b"license")
+        btf.words[place], btf.words[place + 2] = btf.add_string(b".strtab"), 0
     file.add_string(file.names, b"makes the table longer")
+
+
+def as_it_is(file: ElfFile) -> None:
+    pass
 
 
 DIFFERENCES = (
@@ -288,9 +293,27 @@ DIFFERENCES = (
 )
 
 
-def objects_of(bases: Iterable[Base], known: Known) -> tuple[bytes, bytes]:
-    """The base of a difference, which is written in the same way, and the changed one."""
-    file = ElfFile.read(next(it.content for it in bases if it.name == f"{known.base} bpf -g"))
-    base = bytes(file.write())
-    known.change(file)
-    return base, bytes(file.write())
+# Who reads the two differently: libbpf's linker, cilium/ebpf, aya and newer releases of libbpf.
+PAIRS: dict[str, tuple[str, Edit, Edit]] = {
+    "align-values: cilium/ebpf": ("tails", as_it_is, section(b".maps", alignment=16)),
+    "linker-offset: libbpf's linker": ("data", as_it_is, section(b".data", alignment=1)),
+    "address-text: aya": ("calls", as_it_is, section(b".text", address=8)),
+    "address-program: aya": ("plain", as_it_is, section(b"socket1", address=8)),
+    "labels-maps: cilium/ebpf, aya": ("tails", labels(b".maps", (b"one", 0, 0), (b"two", 8, 0)), labels(b".maps", (b"one", 8, 0), (b"two", 0, 0))),
+    "label-data: cilium/ebpf": ("data", as_it_is, labels(b".data", (b"label", 0, 0))),
+    "label-program: cilium/ebpf": ("plain", labels(b"socket1", (b"allow", 0, 0)), labels(b"socket1", (b"deny", 0, 0))),
+    "two-swapped: cilium/ebpf": ("plain", labels(b"socket1", (b"one", 0, 0), (b"two", 8, 0)), labels(b"socket1", (b"two", 0, 0), (b"one", 8, 0))),
+    "jumptable-size: libbpf 1.7": ("data", labels(b".rodata", (b"", 0, 2)), labels(b".rodata", (b"", 0, 4))),
+}
+
+
+def edit(data: bytes, change: Edit) -> bytes:
+    """An object file after a change."""
+    file = ElfFile.read(data)
+    change(file)
+    return bytes(file.write())
+
+
+def edited(source: str, change: Edit, folder: Path) -> bytes:
+    """The object of a source after a change. One as it is is written in the same way."""
+    return edit(files.content(files.named(source), folder), change)

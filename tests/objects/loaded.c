@@ -17,9 +17,7 @@
 #include <sys/wait.h>
 #include <unistd.h>
 
-#include "kernel.h"
-#include "object.h"
-#include "view.h"
+#include "loaded.h"
 
 enum { MAX_SECONDS = 4, MAX_MEMORY = 256 << 20 };
 

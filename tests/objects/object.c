@@ -1,14 +1,10 @@
-#include "object.h"
+#include "loaded.h"
 
 #include <bpf/btf.h>
 #include <bpf/libbpf.h>
 #include <errno.h>
 #include <stdbool.h>
 #include <stdint.h>
-
-#include "kernel.h"
-#include "types.h"
-#include "view.h"
 
 enum { MAX_PROGRAMS = 16 };
 

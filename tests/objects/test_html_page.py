@@ -19,8 +19,8 @@ import pytest
 from tests.command import SECONDS
 from tests.objects.conftest import Review, Run
 from tests.objects.elf_file import ElfFile
-from tests.objects.known import section, symbol
-from tests.objects.test_review import CHANGED, FLOWS, PASS, edit, endless, marked
+from tests.objects.known import edit, section, symbol
+from tests.objects.test_review import CHANGED, FLOWS, PASS, endless, marked
 
 pytestmark = pytest.mark.needs("elftools")
 

@@ -18,19 +18,14 @@ import pytest
 
 from docs import canon
 from tests import TOP, object_vectors
-from tests.judges.test_pairs import PAIRS, edited
-from tests.needs import need
-from tests.objects.bases import all_bases, compile_source
-from tests.objects.btf_changes import btf_of, set_btf
-from tests.objects.changes import Base, changed
+from tests.objects.btf_file import types_of
 from tests.objects.conftest import Review, Run
 from tests.objects.elf_file import ElfFile
-from tests.objects.known import DIFFERENCES, Edit, Known, added, exchanged, objects_of, section, section_named, symbol
+from tests.objects.files import compile_source
+from tests.objects.known import DIFFERENCES, PAIRS, Known, added, as_it_is, edit, edited, exchanged, section, section_named, symbol
 
 COMPILED = TOP / "bindings" / "python" / "tests" / "compiled"
 ORDERS = ("little", "big")
-COUNT, SEED = int(os.environ.get("CHANGED_OBJECTS", "2000")), os.environ.get("CHANGED_SEED", "1")
-FEWEST = 2  # texts of ten changed objects: fewer would test little
 pytestmark = pytest.mark.needs("elftools")
 
 
@@ -38,44 +33,19 @@ def compiled(name: str, order: str) -> bytes:
     return (COMPILED / f"{name}.{order}.elf").read_bytes()
 
 
-def edit(data: bytes, change: Edit) -> bytes:
-    """An object file after a change."""
-    file = ElfFile.read(data)
-    change(file)
-    return bytes(file.write())
-
-
-@pytest.fixture(scope="session")
-def bases(tmp_path_factory: pytest.TempPathFactory) -> list[Base]:
-    need("cc", "clang", "llvm-strip")
-    return all_bases(tmp_path_factory.mktemp("objects"))
-
-
-@pytest.mark.objects
-def test_changed_objects(bases: list[Base], review: Review) -> None:
-    """Two texts are equal exactly if the canonical files are."""
-    canonical: dict[str, bytes] = {}
-    for number in range(COUNT):
-        object = review.accepted(changed(bases, SEED, number).content)
-        if object:
-            assert canonical.setdefault(review.text(object), object.canonical) == object.canonical, number
-    assert len(set(canonical.values())) == len(canonical) >= COUNT * FEWEST // 10
-
-
-@pytest.mark.objects
 @pytest.mark.parametrize("known", DIFFERENCES, ids=[it.name for it in DIFFERENCES])
-def test_known_difference(known: Known, bases: list[Base], review: Review) -> None:
+def test_known_difference(known: Known, review: Review, folder: Path) -> None:
     """What libbpf tells from its base is refused, or differs in more than the key."""
-    base, other = map(review.accepted, objects_of(bases, known))
+    base, other = (review.accepted(edited(known.base, it, folder)) for it in (as_it_is, known.change))
     assert base
     assert other is None or review.text(base) != review.text(other) and review.changes(base, other)
 
 
 @pytest.mark.parametrize("pair", PAIRS)
-def test_pair(pair: str, review: Review, tmp_path: Path) -> None:
+def test_pair(pair: str, review: Review, folder: Path) -> None:
     """What some loader tells apart is shown otherwise."""
     source, *edits = PAIRS[pair]
-    one, other = (review.accepted(edited(source, it, tmp_path)) for it in edits)
+    one, other = (review.accepted(edited(source, it, folder)) for it in edits)
     assert one and other and review.text(one) != review.text(other)
 
 
@@ -218,10 +188,7 @@ def test_source_lines_of_each_section(name: bytes, title: str, review: Review, t
         attribute = '__attribute__((section("{}")))'.format
         texts = [f"{attribute(place)} int {it}(void *context) {{ return {value}; }} //  ; {side}" for place, it in FUNCTIONS.items()]
         path.write_text("\n".join(texts))
-        assert compile_source(path, "bpfel", ("-g",), out)
-        file = ElfFile.read(out.read_bytes())
-        section_named(b"two", name)(file)
-        objects.append(review.accepted(bytes(file.write())))
+        objects.append(review.accepted(edit(compile_source(path, "bpfel", ("-g",), out), section_named(b"two", name))))
         lines.append([f"{path}:{number}: {it}" for number, it in enumerate(texts, 1)])
     found = review.changes(*objects)
     first, second = zip(*lines)
@@ -240,8 +207,7 @@ def test_moved_function(review: Review, tmp_path: Path) -> None:
     source, objects = '__attribute__((section("xdp"))) int %s(void *context) { return %s; }\n', []
     for value in "2", "(long)context":
         (tmp_path / "moved.c").write_text(source % ("first", value) + source % ("second", 1))
-        assert compile_source(tmp_path / "moved.c", "bpfel", ("-g",), tmp_path / "moved.o")
-        objects.append(review.accepted((tmp_path / "moved.o").read_bytes()))
+        objects.append(review.accepted(compile_source(tmp_path / "moved.c", "bpfel", ("-g",), tmp_path / "moved.o")))
     titles = [it.partition(" ")[2] for it in review.changes(*objects)]
     assert "function xdp first" in titles and "function xdp second" not in titles
 
@@ -282,15 +248,13 @@ ESCAPED = MARK.encode("unicode_escape").decode()
 def marked(data: bytes, text: str = MARK) -> bytes:
     """An object file in which source lines, and names of symbols, of types and of a section begin with the mark."""
     file, mark = ElfFile.read(data), text.encode()
-    symbols, btf = file.symbols(), btf_of(file)
-    assert btf
+    symbols, kept = file.symbols(), {file.name(it) for it in range(len(file.sections))}
     for it in symbols:
         it.name = file.add_string(file.symbol_names, mark + file.string(file.symbol_names, it.name)) if it.name else 0
     file.set_symbols(symbols)
-    kept = {file.name(it) for it in range(len(file.sections))}
-    strings = bytes(btf.strings).split(b"\0")
-    btf.strings = bytearray(b"\0".join(it if it in kept or len(it) < len(mark) else mark + it[len(mark) :] for it in strings))
-    set_btf(file, btf)
+    with types_of(file) as btf:
+        strings = bytes(btf.strings).split(b"\0")
+        btf.strings = bytearray(b"\0".join(it if it in kept or len(it) < len(mark) else mark + it[len(mark) :] for it in strings))
     section_named(b"license", mark + b"license")(file)
     return bytes(file.write())
 

@@ -1,12 +1,10 @@
 #define _GNU_SOURCE
-#include "types.h"
+#include "loaded.h"
 
 #include <linux/btf.h>
 #include <stdbool.h>
 #include <stdlib.h>
 #include <string.h>
-
-#include "view.h"
 
 /* Later versions of the header have more fields. */
 enum { NO_NAME = -1, NO_TYPE = 0, ROUNDS = 40, SHORTEST_HEADER = 24 };

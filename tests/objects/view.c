@@ -1,4 +1,4 @@
-#include "view.h"
+#include "loaded.h"
 
 #include <ctype.h>
 #include <stdarg.h>

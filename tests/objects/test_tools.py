@@ -8,9 +8,9 @@ from typing import Any, Callable, Iterator
 
 import pytest
 
-from tests.judges.conftest import Canon, Refused, Tally, each
-from tests.judges.objects import all_made
-from tests.judges.tools import ask, types_by_structure, without_file, without_labels
+from tests.objects.conftest import Canon, Refused, Tally, each
+from tests.objects.files import all_made
+from tests.objects.tools import ask, types_by_structure, without_file, without_labels
 from tests.needs import need
 
 # Tools, with what is compared of their output.

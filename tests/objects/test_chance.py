@@ -12,14 +12,13 @@ from typing import Iterator
 
 import pytest
 
-from tests import TOP
-from tests.judges import objects
-from tests.judges.conftest import Keys, Tally
 from tests.needs import need
+from tests.objects import files
+from tests.objects.conftest import Keys, Tally
 
 RUNS = 20
 KERNEL = Path("/sys/kernel/btf/vmlinux")
-TEXT = (TOP / "tests/judges/chance.c").read_text()
+TEXT = (files.HERE / "sources/chance.c").read_text()
 
 
 @dataclass(frozen=True)
@@ -117,7 +116,7 @@ def test_changes_give_one_file(compiler: Compiler, root: Path, keys: Keys, folde
         compiled(compiler, root, place, next(chance), text=TEXT.replace("\n", "\n\n")),
         compiled(compiler, root, root / "elsewhere", next(chance)),
         compiled(compiler, root, place, next(chance), "-save-temps=obj"),
-        *(objects.changed(compiled(compiler, root, place, next(chance)), tool, folder) for tool in ("stripped", "copied")),
+        *(files.changed(compiled(compiler, root, place, next(chance)), tool, folder) for tool in ("stripped", "copied")),
     ]
     assert len(set(made)) >= len(made) - 1  # two runs may happen to agree
     (key,) = set(keys(made))

@@ -11,19 +11,40 @@ from pathlib import Path
 from typing import Iterator
 
 from tests import TOP, object_vectors
-from tests.objects.bases import DEBUG, INSTALLED, SOURCES, compile_source
+from tests.needs import need
 
+HERE = TOP / "tests/objects"
 ORDERS = {"little": "bpfel", "big": "bpfeb"}
+PLAIN, DEBUG = (), ("-g",)
+# Without types libbpf refuses maps and externs, and CO-RE doesn't compile.
+SOURCES: tuple[tuple[str, tuple[tuple[str, ...], ...]], ...] = (
+    ("tests/objects/sources/maps.c", (PLAIN, DEBUG, ("-g", "-mcpu=v1"))),
+    ("tests/objects/sources/tails.c", (DEBUG,)),
+    ("tests/objects/sources/data.c", (PLAIN, DEBUG)),
+    ("tests/objects/sources/calls.c", (PLAIN, DEBUG)),
+    ("tests/objects/sources/core.c", (DEBUG,)),
+    ("tests/objects/sources/externs.c", (DEBUG,)),
+    ("tests/objects/sources/operations.c", (DEBUG,)),
+    ("tests/objects/sources/plain.c", (PLAIN, DEBUG)),
+    ("recipes/count.c", (("-g", "-DMAP=packets"), ("-g", "-DMAP=errors"))),
+    ("testdata/packet_filter.c", (DEBUG,)),
+    ("testdata/flow_table.c", (DEBUG,)),
+    ("testdata/hash_words.c", (PLAIN, DEBUG)),
+    ("testdata/pass.c", (DEBUG,)),
+)
 TRIED_TOO = ("-O1", "-mcpu=v2", "-mcpu=v3")
 # Sources that are compiled in one way only, with their macros: those of other tests, and each part of kinds.c.
-KINDS = TOP / "tests/judges/kinds.c"
+KINDS = HERE / "sources/kinds.c"
 OTHERS: dict[str, tuple[str, ...]] = {
     "bindings/python/tests/compiled/flows.c": ("-DENTRIES=16", "-DLIMIT=10", "-DRETURNS=2"),
     **{f"testdata/objects/{it}.c": () for it in ("calls", "core", "data", "externs", "maps")},
     **dict.fromkeys(("examples/bazel/allow.c", "examples/bazel/deny.c", "tests/examples/two.c", "tests/objects/sources/kernel.c"), ()),
 }
+INSTALLED = Path("/usr/share/gocode/src/github.com/cilium/ebpf/testdata")
 # Debian's libxdp1 has the programs of xdp-tools.
 XDP_TOOLS = Path("/usr/lib/x86_64-linux-gnu/bpf")
+# libbpf refuses the other byte order, so that a few are enough to be changed. Longer files take longer.
+OTHER_ORDER, LARGEST = ("maps", "core", "packet_filter"), 60_000
 # What tools make of an object; IN and OUT stand for both files. libbpf links only what has the byte order of the processor.
 TOOLS = {
     "stripped": ("llvm-strip", "-g", "IN", "-o", "OUT"),
@@ -46,11 +67,6 @@ class Made:
     @property
     def name(self) -> str:
         return " ".join(it for it in (self.source.name, self.order, *self.flags, self.tool) if it)
-
-    @property
-    def tools(self) -> tuple[str, ...]:
-        """The commands that make it."""
-        return ("clang", *(TOOLS[self.tool][:1] if self.tool else ())) if self.order else ()
 
 
 def vectors() -> list[Made]:
@@ -75,6 +91,15 @@ def all_made() -> Iterator[Made]:
     yield from (it for it in vectors() if it not in WITHOUT_RECORDS)
 
 
+def bases() -> Iterator[Made]:
+    """The objects that are changed."""
+    for path, variants in SOURCES:
+        for flags in variants:
+            yield from (Made(TOP / path, "little", flags, it) for it in ("", "stripped") if not it or flags == DEBUG)
+    yield from (named(it, "big") for it in OTHER_ORDER)
+    yield from (Made(it) for it in sorted(INSTALLED.glob("*-el.elf")) if it.stat().st_size <= LARGEST)
+
+
 def named(source: str, order: str = "little") -> Made:
     """An object of a source, with types."""
     path = next(TOP / path for path, _ in SOURCES if path.endswith(f"/{source}.c"))
@@ -82,15 +107,27 @@ def named(source: str, order: str = "little") -> Made:
 
 
 @functools.lru_cache(maxsize=None)
+def kernel_headers() -> str:
+    """Where the headers of the kernel are that differ between processors; clang looks there only if it compiles for this one."""
+    asked = subprocess.run(["cc", "-print-multiarch"], capture_output=True, text=True, check=True)
+    return f"/usr/include/{asked.stdout.strip()}"
+
+
+def compile_source(source: Path, target: str, flags: tuple[str, ...], out: Path) -> bytes:
+    line = ["clang", "-target", target, "-O2", *flags, "-fdebug-compilation-dir=.", f"-I{kernel_headers()}", "-c", source, "-o", out]
+    subprocess.run(line, capture_output=True, check=True)
+    return out.read_bytes()
+
+
+@functools.lru_cache(maxsize=None)
 def content(made: Made, folder: Path) -> bytes:
     """The bytes of an object, which is made in a folder."""
     if not made.order:
         return made.source.read_bytes()
-    path = folder / f"{made.name.replace(' ', '_')}.o"
+    need("clang", "cc", *TOOLS.get(made.tool, ())[:1])
     if made.tool:
         return changed(content(Made(made.source, made.order, made.flags), folder), made.tool, folder)
-    assert compile_source(made.source, ORDERS[made.order], made.flags, path), f"clang refuses {made.name}"
-    return path.read_bytes()
+    return compile_source(made.source, ORDERS[made.order], made.flags, folder / f"{made.name.replace(' ', '_')}.o")
 
 
 def changed(data: bytes, tool: str, folder: Path) -> bytes:

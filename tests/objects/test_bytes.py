@@ -11,10 +11,10 @@ from typing import Callable, Iterator, NamedTuple
 import pytest
 
 from tests import TOP
-from tests.judges import objects
-from tests.judges.objects import KINDS, OTHERS
 from tests.needs import need
-from tests.objects.bases import SOURCES, kernel_headers
+from tests.objects import files
+from tests.objects.conftest import Keys
+from tests.objects.files import KINDS, OTHERS, SOURCES, kernel_headers
 
 FUNCTION = re.compile(r"^(?!#)(\S[^\n;]*?\b(\w+)\))( \{ [^\n]* \}|\n\{\n.*?\n\})$", re.MULTILINE | re.DOTALL)
 LOCAL = re.compile(r"^\t(?!return |static |goto )(?:(?:const|enum|struct|unsigned) )*\w+ \**(\w+)(?:\[\w*\])?(?= =|;|,)", re.MULTILINE)
@@ -32,7 +32,7 @@ class Row(NamedTuple):
 
 
 def rows() -> list[Row]:
-    part = (TOP / "tests/judges/README.md").read_text().partition("\n## What changes a canonical file\n")[2].partition("\n## ")[0]
+    part = (TOP / "tests/objects/README.md").read_text().partition("\n## What changes a canonical file\n")[2].partition("\n## ")[0]
     found = re.findall(r"^\| ([^|]+) \| (\d+) \| (\d+) \| (\d+) \| ([^|]*)\|$", part, re.MULTILINE)
     return [Row(change, tuple(map(int, figures)), reason) for change, *figures, reason in found]
 
@@ -71,16 +71,8 @@ def base(folder: Path) -> Objects:
 
 
 @pytest.fixture(scope="session")
-def base_keys(base: Objects, object_program: Path, folder: Path) -> dict[str, str]:
-    return keys(base, object_program, folder)
-
-
-def keys(made: Objects, program: Path, folder: Path) -> dict[str, str]:
-    """The keys of objects, by the built command."""
-    for name, data in made.items():
-        (folder / name).write_bytes(data)
-    done = subprocess.run([program, "key", *made], cwd=folder, capture_output=True, text=True, check=True)
-    return {name: key for key, _, name in (line.partition("  ") for line in done.stdout.splitlines())}
+def base_keys(base: Objects, keys: Keys) -> dict[str, str]:
+    return dict(zip(base, keys([*base.values()])))
 
 
 def renamed(name: str, text: str) -> str:
@@ -111,7 +103,7 @@ def by_tool(tool: str) -> Way:
         found = {}
         for name, data in base.items():
             with contextlib.suppress(subprocess.CalledProcessError):
-                found[name] = objects.changed(data, tool, folder)
+                found[name] = files.changed(data, tool, folder)
         return found
 
     return way
@@ -139,10 +131,10 @@ def test_table() -> None:
 
 
 @pytest.mark.parametrize("row", rows(), ids=[it.change for it in rows()])
-def test_what_changes(row: Row, base: Objects, base_keys: dict[str, str], object_program: Path, folder: Path) -> None:
+def test_what_changes(row: Row, base: Objects, base_keys: dict[str, str], keys: Keys, folder: Path) -> None:
     """If the page names sources in a row, their canonical files change, and no others."""
     made = WAYS[row.change](base, folder)
-    found = keys(made, object_program, folder)
+    found = dict(zip(made, keys([*made.values()])))
     changed = {it for it in made if found[it] != base_keys[it]}
     assert (len(made), sum(made[it] != base[it] for it in made), len(changed)) == row.figures
     named = {it for it in base if f"`{it.replace('-', '/')}`" in row.reason or f"`{it[:-2]}`" in row.reason}

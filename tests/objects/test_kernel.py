@@ -9,9 +9,9 @@ import subprocess
 from pathlib import Path
 from typing import Any, Iterator
 
-from tests.judges.conftest import Canon, Tally, each
-from tests.judges.objects import XDP_TOOLS, all_made
-from tests.judges.tools import types_by_structure
+from tests.objects.conftest import Canon, Tally, each
+from tests.objects.files import XDP_TOOLS, all_made
+from tests.objects.tools import types_by_structure
 
 PROGRAM = ("name", "type", "tag", "gpl_compatible", "bytes_xlated")
 MAP = ("name", "type", "flags", "bytes_key", "bytes_value", "max_entries")

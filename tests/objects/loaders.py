@@ -1,4 +1,4 @@
-"""What loaders read from objects: libbpf, by the program of tests/objects, and cilium/ebpf."""
+"""What loaders read from objects: libbpf, by the program `loaded`, and cilium/ebpf."""
 
 from __future__ import annotations
 
@@ -10,10 +10,10 @@ import threading
 from pathlib import Path
 from typing import IO, Optional
 
-from tests.objects.bases import INSTALLED
-from tests.objects.views import build, static_libbpf
+from tests.objects.files import HERE, INSTALLED, compile_source
 
-HERE = Path(__file__).parent
+PARTS = ("loaded.c", "object.c", "kernel.c", "calls.c", "types.c", "view.c")
+REPLACED = ("syscall", "fopen64", "gzopen64", "btf__load_vmlinux_btf", "mkdir")
 NEEDED = {"libbpf": ("cc", "clang", "libbpf"), "cilium": ("go", "github.com/cilium/ebpf")}
 GO = {"GO111MODULE": "off", "GOENV": "off", "GOFLAGS": "", "GOTOOLCHAIN": "local", "GOPATH": str(INSTALLED.parents[4])}
 
@@ -76,9 +76,14 @@ def is_accepted(view: bytes) -> bool:
 
 
 def libbpf(folder: Path) -> list[str]:
-    archive = static_libbpf()
-    assert archive
-    return build(folder, archive)
+    """Compiles `loaded` over the archive of libbpf, as functions that a shared library calls in itself couldn't be replaced; and the types of its
+    kernel."""
+    program, kernel = folder / "loaded", folder / "kernel.o"
+    wraps = [f"-Wl,--wrap={it}" for it in REPLACED]
+    line = ["cc", "-std=gnu11", "-O2", "-g", "-Wall", "-Wextra", "-Werror", *(HERE / it for it in PARTS), "-o", program, *wraps]
+    subprocess.run([*line, "-l:libbpf.a", "-lelf", "-lz"], check=True)
+    compile_source(HERE / "sources/kernel.c", "bpf", ("-g",), kernel)
+    return [str(program), str(kernel)]
 
 
 def cilium(folder: Path, name: str = "cilium") -> list[str]:

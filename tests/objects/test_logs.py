@@ -12,13 +12,13 @@ from typing import Any
 import pytest
 
 from docs import canon
-from tests.judges.conftest import each
-from tests.judges.loaders import NEEDED, cilium
-from tests.judges.objects import Made
-from tests.judges.test_kernel import LOADABLE
+from tests.objects.conftest import each
+from tests.objects.files import HERE, Made
+from tests.objects.loaders import NEEDED, cilium
+from tests.objects.test_kernel import LOADABLE
 
 # One of two programs is refused, and loaders differ in where they put the functions.
-LOGGED = Made(Path(__file__).parent / "logs.c", "little", ("-g", "-mcpu=v3"))
+LOGGED = Made(HERE / "sources/logs.c", "little", ("-g", "-mcpu=v3"))
 ALL = "-d"  # with it libbpf asks for all that the kernel logs, and without it for the path to what is refused
 pytestmark = pytest.mark.needs("elftools")
 

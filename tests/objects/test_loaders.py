@@ -2,12 +2,15 @@
 
 from __future__ import annotations
 
+import pytest
+
 from tests import object_vectors
-from tests.judges.conftest import Canon, Tally, each
-from tests.judges.loaders import Loader, is_accepted
-from tests.judges.objects import WITHOUT_RECORDS, all_made
+from tests.objects.conftest import Canon, Tally, each
+from tests.objects.files import WITHOUT_RECORDS, all_made
+from tests.objects.loaders import Loader, is_accepted
 
 
+@pytest.mark.slow
 def test_loader_loads(loader: Loader) -> None:
     """A loader that refuses all objects, because the stand-in for bpf(2) lacks a call of it, would tell no two apart."""
     view = loader.view((object_vectors.FOLDER / "packet_filter.little.typed.o").read_bytes())

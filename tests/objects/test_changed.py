@@ -3,7 +3,6 @@
 from __future__ import annotations
 
 import hashlib
-import os
 import re
 import struct
 from pathlib import Path
@@ -12,17 +11,14 @@ import pytest
 
 from docs.canon import canonical
 from tests import TOP
-from tests.judges import objects
-from tests.judges.conftest import Canon, Keys, Tally
-from tests.judges.loaders import Loader, is_accepted
-from tests.needs import need
-from tests.objects.bases import all_bases
-from tests.objects.changes import Base, Changed, changed
+from tests.objects import files
+from tests.objects.changes import COUNT, each_changed
+from tests.objects.conftest import Canon, Keys, Review, Tally
 from tests.objects.elf_fields import HEADER, SECTION, SYMBOL
+from tests.objects.loaders import Loader, is_accepted
 
-COUNT, SEED = int(os.environ.get("CHANGED_OBJECTS", "2000")), os.environ.get("CHANGED_SEED", "1")
-PARTS, BATCH = 2, 200
-FEWEST = COUNT // PARTS // 3  # accepted objects: fewer would test little
+BATCH = 200
+FEWEST, FEWEST_TEXTS = COUNT // 3, COUNT // 5  # accepted objects, and texts of canonical files: fewer would test little
 TRIES = 20
 EXTENSION_HEADER = {
     "magic": 2, "version": 1, "flags": 1, "hdr_len": 4, "func_info_off": 4, "func_info_len": 4, "line_info_off": 4, "line_info_len": 4,
@@ -38,54 +34,51 @@ WRITTEN = (".BTF", ".BTF.ext", ".symtab", ".strtab")
 SHT_NOBITS, SHT_REL = 8, 9
 WAYS = (0x01, 0x80, 0xFF)
 Place = tuple[str, str]
-Views = dict[str, tuple[bytes, ...]]  # the digests of what the loaders say of a canonical file, by its key
-
-
-@pytest.fixture(scope="session")
-def bases(folder: Path) -> list[Base]:
-    need("cc", "clang", "llvm-strip")
-    return all_bases(folder)
-
-
-def digest(content: bytes) -> bytes:
-    return hashlib.sha256(content).digest()
 
 
 def word_for(loader: Loader, content: bytes, view: bytes, known: bytes) -> str:
     """Whether a view of an object is that of its canonical file. cilium/ebpf reads either of two sections with one name, at random, so it is
     asked again; what it refuses, it may take then."""
-    if digest(view) == known or is_accepted(view) and any(digest(loader.view(content)) == known for _ in range(TRIES)):
-        return "the same"
+    if view == known or is_accepted(view) and any(loader.view(content) == known for _ in range(TRIES)):
+        return f"the same, {'accepted' if is_accepted(view) else 'refused'}"
     return "refused, and then accepted" if loader.name == "cilium" and not is_accepted(view) else "other"
 
 
-def canonical_files(batch: list[Changed], found: list[str], views: Views, keys: Keys) -> dict[str, bytes]:
-    """The new canonical files, which docs/canon.py writes: their SHA-256 are the keys, and their own ones."""
-    new = {key: canonical(one.content) for one, key in zip(batch, found) if key and key not in views}
-    assert [*new] == [hashlib.sha256(it).hexdigest() for it in new.values()] == keys([*new.values()])
-    return new
+def test_equal_bytes_mean_equal_views(bases: list[bytes], both: list[Loader], keys: Keys, tally: Tally) -> None:
+    """The views of a canonical file, which docs/canon.py writes too, are those of each object that has it."""
+    known: dict[str, list[bytes]] = {}
+    counts = tally["changed objects"]
+
+    @each_changed(bases)
+    def judge(content: bytes) -> None:
+        (key,) = keys([content])
+        counts["accepted" if key else "refused"] += 1
+        if key and key not in known:
+            made = canonical(content)
+            assert [hashlib.sha256(made).hexdigest(), *keys([made])] == [key, key]
+            known[key] = [loader.view(made) for loader in both]
+        for loader, view in zip(both, known.get(key, ())):
+            word = word_for(loader, content, loader.view(content), view)
+            tally[f"{loader.name}, changed objects"][word] += 1
+            assert word != "other"
+
+    judge()
+    counts["canonical files"] = len(known)
+    assert counts["accepted"] >= FEWEST
 
 
-@pytest.mark.parametrize("part", range(PARTS))
-def test_equal_bytes_mean_equal_views(part: int, bases: list[Base], both: list[Loader], keys: Keys, tally: Tally) -> None:
-    """The views of a canonical file are those of each object that has it."""
-    views: Views = {}
-    wrong, count = [], 0
-    for first in range(part * BATCH, COUNT, PARTS * BATCH):
-        batch = [changed(bases, SEED, number) for number in range(first, min(first + BATCH, COUNT))]
-        found = keys([it.content for it in batch])
-        new = canonical_files(batch, found, views, keys)
-        views |= zip(new, zip(*([digest(it) for it in loader.views([*new.values()])] for loader in both)))
-        accepted = [(one, key) for one, key in zip(batch, found) if key]
-        for number, loader in enumerate(both):
-            for (one, key), view in zip(accepted, loader.views([it.content for it, _ in accepted])):
-                word = word_for(loader, one.content, view, views[key][number])
-                tally[f"{loader.name}, changed objects"][f"{word}, {'accepted' if is_accepted(view) else 'refused'}"] += 1
-                wrong += [f"{loader.name}: {one}"] if word == "other" else []
-        count += len(accepted)
-        tally["changed objects"].update({"accepted": len(accepted), "refused": len(batch) - len(accepted), "canonical files": len(new)})
-    assert not wrong[:20]
-    assert count >= FEWEST
+@pytest.mark.needs("elftools")
+def test_texts(bases: list[bytes], review: Review) -> None:
+    """The texts of bpfcanon-review are equal exactly if the canonical files are."""
+    known: dict[str, bytes] = {}
+
+    @each_changed(bases)
+    def judge(content: bytes) -> None:
+        object = review.accepted(content)
+        assert not object or known.setdefault(review.text(object), object.canonical) == object.canonical
+
+    judge()
+    assert len(set(known.values())) == len(known) >= FEWEST_TEXTS
 
 
 def string_at(data: bytes, place: int) -> str:
@@ -141,8 +134,7 @@ def free_places() -> set[Place]:
 @pytest.mark.parametrize("source, order", [("core", "little"), ("packet_filter", "big"), ("operations", "little")])
 def test_each_byte(source: str, order: str, canon: Canon, keys: Keys, folder: Path, tally: Tally) -> None:
     """A changed byte of a canonical file is refused, or changes it, unless it is in a field that the page calls free."""
-    need("clang")
-    data = canon(objects.content(objects.named(source, order), folder))
+    data = canon(files.content(files.named(source, order), folder))
     free, names, own = free_places(), places_of(data), hashlib.sha256(data).hexdigest()
     words = {"": "refused", own: "the same canonical file"}
     changes = [(place, way) for place in range(len(data)) for way in WAYS]
