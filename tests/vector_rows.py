@@ -1,6 +1,9 @@
 """Reads testdata/vectors.tsv, whose README describes the columns."""
 
+from typing import NamedTuple
+
 from tests import TOP
+from tests.command import Ran
 
 TESTDATA = TOP / "testdata"
 VECTORS = TESTDATA / "vectors.tsv"
@@ -35,3 +38,20 @@ def data(field):
 def is_bytes(line):
     """Whether the output of a command is bytes, and not a string."""
     return line == "-" or line.startswith(("insn-canon", "insn-read", "btf-canon"))
+
+
+class Example(NamedTuple):
+    """A command line, its standard input, and the right answer."""
+
+    name: str
+    line: str
+    input: bytes
+    right: Ran
+
+
+def examples():
+    """The rows of command lines."""
+    for name, words, given, status, output, message in rows("run"):
+        line = "" if words == "-" else words
+        right = Ran(int(status), data(output) if is_bytes(words) else text(output), text(message) + b"\n" * (message != "-"))
+        yield Example(name, line, text(given) if line.startswith("insn-read") else data(given), right)

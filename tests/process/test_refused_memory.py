@@ -12,76 +12,33 @@ import os
 
 import pytest
 
-from tests import long_listings, samples
+from tests import long_listings
+from tests.command import Ran
+from tests.vector_rows import Example, examples
 
 # No line needs that many allocations: a loop that gets here would not end.
 MOST_ALLOCATIONS = 2_000
-
-# Lines of each command that succeed.
-GOOD = [
-    samples.done("no word", "", samples.EXIT, samples.EXIT),
-    samples.done("canonical bytes", "insn-canon --order big", samples.WIDE_BIG, samples.WIDE),
-    samples.done("a listing", "insn-show", samples.THREE_INSTRUCTIONS, samples.THREE_LINES),
-    samples.done("a listing read", "insn-read", samples.LOOSE_LISTING, samples.LISTED),
-    samples.done("groups", "insn-groups --order big", samples.MOV_BIG, b"base32\nbase64\n"),
-    samples.done("the same", "insn-same --split 8 --order big", samples.MOV_BIG + samples.MOV, b"same\n"),
-    samples.different("different", "insn-same --split 8", samples.MOV_BIG + samples.MOV),
-    samples.done("canonical BTF", "btf-canon", samples.TAGGED_MEMBER, samples.TAIL_OF_TAG),
-    samples.done("big-endian BTF", "btf-canon --to big", samples.INT, samples.INT_BIG),
-    samples.done("BTF shown", "btf-show", samples.INT_BIG, samples.INT_TEXT),
-    samples.done("BTF checked", "btf-check", samples.TAGGED_MEMBER, b"ok 3 types\n"),
-    samples.done("the same BTF", "btf-same --split 45", samples.INT_BIG + samples.LOOSE_INT, b"same\n"),
-    samples.different("different BTF", "btf-same --split 45", samples.INT_BIG + samples.ENUM64_BIG),
-]
-
-FAULTY = [
-    samples.refused(
-        "instructions",
-        "insn-canon",
-        samples.EXIT + samples.SOURCE_BESIDE_IMMEDIATE,
-        "fault 9 Src",
-        samples.EXIT,
-    ),
-    samples.refused("instructions to list", "insn-show", samples.CUT_WIDE, "fault 8 Truncated"),
-    samples.refused("a listing", "insn-read", b"exit\nleave", "fault line 2 Word"),
-    samples.refused("instructions of groups", "insn-groups", samples.REGISTER_ELEVEN, "fault 1 Dst"),
-    samples.refused(
-        "the second of two files",
-        "insn-same --split 8",
-        samples.EXIT + samples.CUT_WIDE,
-        "second: fault 8 Truncated",
-    ),
-    samples.refused("BTF", "btf-canon", samples.POINTER_TO_NOTHING, "fault 32 Reference"),
-    samples.refused("BTF to show", "btf-show", samples.NAME_NOT_UTF8, "fault 24 NameUtf8"),
-    samples.refused("BTF to check", "btf-check", samples.TAG_OF_A_THIRD_MEMBER, "fault 88 Component"),
-    samples.refused(
-        "the first of two BTF files",
-        "btf-same --split 37",
-        samples.POINTER_TO_NOTHING,
-        "first: fault 32 Reference",
-    ),
-    samples.refused("a split after the end", "btf-same --split 26", samples.NO_TYPES, "split beyond input"),
-]
-
 NAMES = [bytes([letter]) for letter in b"abcdefghijklmnopqrstuvwx"]
 # A file of TYPEDEFs with these names, which is canonical, and its listing.
 MANY_NAMES, MANY_LINES = long_listings.typedefs(range(1, 48, 2), b"\0" + b"\0".join(NAMES) + b"\0", NAMES)
-
 WITH_MANY_NAMES = [
-    samples.done("canonical names", "btf-canon", MANY_NAMES, MANY_NAMES),
-    samples.done("names shown", "btf-show", MANY_NAMES, MANY_LINES),
-    samples.done("names checked", "btf-check", MANY_NAMES, b"ok 24 types\n"),
-    samples.done("the same names", f"btf-same --split {len(MANY_NAMES)}", MANY_NAMES * 2, b"same\n"),
+    Example("canonical names", "btf-canon", MANY_NAMES, Ran(0, MANY_NAMES)),
+    Example("names shown", "btf-show", MANY_NAMES, Ran(0, MANY_LINES)),
+    Example("names checked", "btf-check", MANY_NAMES, Ran(0, b"ok 24 types\n")),
+    Example("the same names", f"btf-same --split {len(MANY_NAMES)}", MANY_NAMES * 2, Ran(0, b"same\n")),
 ]
-
 # Lines whose output is written in two pieces, and the length of the first. The second needs more memory.
-IN_PIECES = [
-    (samples.done("a listing in pieces", "insn-show", *long_listings.negations_and_exits()), 8_192),
-    (samples.done("types in pieces", "btf-show", *long_listings.nameless(2, 1_000)), 8_192),
-    (samples.done("a long name in pieces", "btf-show", *long_listings.letters_and_controls()), 8_205),
-]
+IN_PIECES = [("insn-show", long_listings.negations_and_exits(), 8_192), ("btf-show", long_listings.nameless(2, 1_000), 8_192)]
+IN_PIECES += [("btf-show", long_listings.letters_and_controls(), 8_205)]
 
-REFUSED_LINES = [samples.refused_line("insn-canon --order middle"), samples.refused_line("insn-canon --help")]
+
+def each_answer():
+    """Of each command, an example of each kind of answer: that with the longest input. All commands refuse a line alike."""
+    found = {}
+    for it in sorted(examples(), key=lambda it: len(it.input)):
+        command, right = it.line.partition(" ")[0], it.right
+        found[command if right.status != 2 else "", right.status, right.output == b"different\n", right.message[:6]] = it
+    return [*found.values()]
 
 
 def run_refused(program, shared_object, example, first, last):
@@ -130,13 +87,15 @@ def refuse_each(program, shared_object, example, only_one, first_piece=0):
 
 
 @pytest.mark.parametrize("only_one", [True, False], ids=["alone", "all that follow"])
-@pytest.mark.parametrize("example", GOOD + WITH_MANY_NAMES + FAULTY + REFUSED_LINES, ids=lambda it: it.name)
+@pytest.mark.parametrize("example", [*each_answer(), *WITH_MANY_NAMES], ids=lambda it: f"{it.line}: {it.name}")
 def test_refused(program, refusing, example, only_one):
     """Each line allocates for the arguments of the process, and again for clap."""
     assert {b"no words\n", b"no memory\n"} <= refuse_each(program, refusing, example, only_one)
 
 
 @pytest.mark.parametrize("only_one", [True, False], ids=["alone", "all that follow"])
-@pytest.mark.parametrize("example, first_piece", IN_PIECES, ids=lambda it: getattr(it, "name", ""))
-def test_refused_after_a_piece(program, refusing, example, first_piece, only_one):
-    assert example.right.output[:first_piece] in refuse_each(program, refusing, example, only_one, first_piece)
+@pytest.mark.parametrize("line, answer, first_piece", IN_PIECES, ids=["a listing", "types", "a long name"])
+def test_refused_after_a_piece(program, refusing, line, answer, first_piece, only_one):
+    given, output = answer
+    example = Example("in pieces", line, given, Ran(0, output))
+    assert output[:first_piece] in refuse_each(program, refusing, example, only_one, first_piece)
