@@ -21,19 +21,26 @@ GO_EXAMPLES = ["flow_table.c", "flow_table.big.btf", "flow_table.little.btf", "p
 
 
 class Processor(NamedTuple):
-    """What is built for a processor: its name, that in Go and Debian, a page, the compiler, its flags, and the options of meson."""
+    """What is built for a processor: its name, that in Go and Debian, what README says, the compiler, its flags, and the options of meson."""
 
     name: str
     port: str
-    readme: str
+    said: dict[str, str]
     compiler: str
     flags: str
     options: list[str]
 
 
+NEEDS = """\
+The commands and the library need an x86-64-v2 processor (SSE4.2 and POPCNT: Intel since 2008, AMD
+since 2011), and refuse any other with a sentence.
+
+"""
+X86 = {"@PROCESSOR@": "x86-64", "@GLIBC@": "2.14", "@NEEDS@": NEEDS}
+ARM = {"@PROCESSOR@": "64-bit ARM (aarch64)", "@GLIBC@": "2.17", "@NEEDS@": ""}
 PROCESSORS = [
-    Processor("x86_64", "amd64", "README.binary", "cc", f"{CFLAGS} -fcf-protection", []),
-    Processor("aarch64", "arm64", "README.arm", "aarch64-linux-gnu-gcc", f"{CFLAGS} -mbranch-protection=standard", [f"--cross-file={CROSS_FILE}"]),
+    Processor("x86_64", "amd64", X86, "cc", f"{CFLAGS} -fcf-protection", []),
+    Processor("aarch64", "arm64", ARM, "aarch64-linux-gnu-gcc", f"{CFLAGS} -mbranch-protection=standard", [f"--cross-file={CROSS_FILE}"]),
 ]
 
 
@@ -67,7 +74,10 @@ def stage_processor(it: Processor, source: pathlib.Path, work: pathlib.Path) -> 
     run("meson", "install", "-C", build)
     (root / "install.sh").write_text((TOP / "packaging" / "install.sh").read_text().replace("@MACHINE@", it.name))
     (root / "install.sh").chmod(0o755)
-    (root / "README").write_text(page(TOP / "packaging" / it.readme))
+    text = page(TOP / "packaging" / "README.binary")
+    for mark, words in it.said.items():
+        text = text.replace(mark, words)
+    (root / "README").write_text(text)
     for name in AT_TOP:
         (root / name).symlink_to(f"share/doc/bpfcanon/{name}")
     return root
