@@ -2,19 +2,16 @@
 
 from __future__ import annotations
 
-import os
 import re
 import shutil
 import subprocess
-import sys
 from dataclasses import dataclass
 from pathlib import Path
 
 import pytest
 
-from tests import TOP
-from tests.needs import GOCODE, need
-from tests.pages.plugin import CARGO
+from tests import TOP, reader
+from tests.needs import need
 
 # A build may take minutes on a busy machine.
 SECONDS = 600
@@ -47,22 +44,8 @@ class Place:
         self.folder = folder
         for name in "examples", "recipes", "bindings/rust":
             shutil.copytree(TOP / name, folder / name, ignore=shutil.ignore_patterns("target", "Cargo.lock", "bazel-*"))
-        links = {"bin/bpfcanon-object": program, "go/src/bpfcanon": TOP / "bindings" / "go", "testdata": TOP / "testdata"}
-        for path, target in links.items():
-            (folder / path).parent.mkdir(parents=True, exist_ok=True)
-            (folder / path).symlink_to(target)
-        (folder / "cargo").mkdir()
-        (folder / "cargo" / "config.toml").write_text(CARGO)
-        self.settings = os.environ | {"PATH": f"{folder}/bin:{os.environ['PATH']}", "HOME": str(folder), "CARGO_HOME": f"{folder}/cargo"}
-        self.settings |= {"RUSTUP_HOME": os.environ.get("RUSTUP_HOME", f"{Path.home()}/.rustup"), "RUSTFLAGS": ""}
-        self.settings |= {"GO111MODULE": "off", "GOENV": "off", "GOFLAGS": "", "CGO_ENABLED": "1", "GOPATH": f"{folder}/go:{GOCODE}"}
-        self.settings |= {"GOCACHE": f"{folder}/go-cache", "TEST_TMPDIR": f"{folder}/bazel"}
-        if prefix:
-            library = f"{prefix}/lib"
-            self.settings |= {"PKG_CONFIG_PATH": f"{library}/pkgconfig", "LD_LIBRARY_PATH": library}
-            self.settings |= {"BPFCANON_LIBRARY": f"{library}/libbpfcanon.so.0", "PYTHONPATH": f"{TOP}/bindings/python"}
-            (folder / "bin" / "bpfcanon-review").write_text(f'#!/bin/sh\nexec {sys.executable} -B -m bpfcanon.review "$@"\n')
-            (folder / "bin" / "bpfcanon-review").chmod(0o755)
+        (folder / "testdata").symlink_to(TOP / "testdata")
+        self.settings: dict[str, str] = reader.settings(folder, {"bpfcanon-object": program}, prefix)
 
     def run(self, *words: str | Path, within: str = ".") -> Done:
         folder = self.folder / within

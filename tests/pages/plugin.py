@@ -25,8 +25,8 @@ import sys
 import pytest
 from markdown_it import MarkdownIt
 
-from tests import TOP
-from tests.needs import GOCODE, CRATES, built, need
+from tests import TOP, reader
+from tests.needs import built, need
 
 PAGES = [
     str(it.relative_to(TOP))
@@ -44,22 +44,15 @@ ELSEWHERE = {
     ("docs/FORMATS.md", "text"): "docs/FORMATS.md",
 }
 COMMENT = re.compile(r"<!-- (needs|file|go|given|stand-in|not run): (.*?) -->")
-REVIEW = "bpfcanon-review"
-CARGO = f'[net]\noffline = true\n[source.crates-io]\nreplace-with = "debian"\n[source.debian]\ndirectory = "{CRATES}"\n'
 RT = '#!/bin/sh\nshift\n[ "$1" != -- ] || shift\nexec bpfcanon "$@"\n'
 NO_LINKS = {".git", "crates", "out"}
+PROGRAMS = {"program": "bpfcanon", "object_program": "bpfcanon-object"}
 SECONDS = 120
 
 
 def pytest_collect_file(file_path, parent):
     if file_path.suffix == ".md" and str(file_path.relative_to(TOP)) in PAGES:
         return Page.from_parent(parent, path=file_path)
-
-
-def write(path, text, mode=0o644):
-    path.parent.mkdir(parents=True, exist_ok=True)
-    path.write_text(text)
-    path.chmod(mode)
 
 
 class Page(pytest.File):
@@ -84,38 +77,20 @@ class Page(pytest.File):
                 raise self.CollectError(f"{test} doesn't name {self.path.name}, of which it runs blocks")
 
     def begin(self):
-        """The top of a clone, by links to this tree, and the settings of its commands: nothing is from the network or a user's settings."""
+        """The top of a clone, by links to this tree."""
         tmp = self.config._tmp_path_factory.mktemp(self.path.stem)
         self.tools, self.folder, self.at = tmp / "tools", tmp / "clone", tmp / "at"
         self.folder.mkdir()
         for path in TOP.iterdir():
             if path.name not in NO_LINKS:
                 (self.folder / path.name).symlink_to(path)
-        prefix = self.config.getoption("prefix").resolve()
-        (self.tools / "bin").mkdir(parents=True)
-        for option, name in ("program", "bpfcanon"), ("object_program", "bpfcanon-object"):
-            program, crate = built(self.config.getoption(option), "all"), name.replace("-", "_")
-            for place in self.folder / "crates" / crate / "out" / crate, self.tools / "bin" / name:
-                place.parent.mkdir(parents=True, exist_ok=True)
-                place.symlink_to(program)
-        write(self.tools / "gitconfig", "[user]\nname = reader\nemail = reader@example.org\n")
-        write(self.tools / "cargo" / "config.toml", CARGO)
-        (self.tools / "go" / "src").mkdir(parents=True)
-        (self.tools / "go" / "src" / "bpfcanon").symlink_to(TOP / "bindings" / "go")
-        self.settings = os.environ | {"PATH": f"{self.tools / 'bin'}:{os.environ['PATH']}", "PYTHONDONTWRITEBYTECODE": "1"}
-        self.settings |= {"HOME": str(tmp), "RUSTUP_HOME": os.environ.get("RUSTUP_HOME", f"{pathlib.Path.home()}/.rustup")}
-        self.settings |= {
-            "GIT_CONFIG_GLOBAL": f"{self.tools}/gitconfig",
-            "PRE_COMMIT_HOME": f"{tmp}/pre-commit",
-            "TEST_TMPDIR": f"{tmp}/bazel",
-        }
-        self.settings |= {"GO111MODULE": "off", "GOENV": "off", "GOFLAGS": "", "CGO_ENABLED": "1", "GOPATH": f"{self.tools}/go:{GOCODE}"}
-        self.settings |= {"GOCACHE": f"{self.tools}/go-cache", "CARGO_HOME": f"{self.tools}/cargo", "RUSTFLAGS": ""}
-        if prefix.exists():
-            own = {"BPFCANON_LIBRARY": f"{prefix}/lib/libbpfcanon.so.0", "PYTHONPATH": f"{TOP}/bindings/python"}
-            words = " ".join([*(f"{name}='{value}'" for name, value in own.items()), sys.executable, "-B -m bpfcanon.review"])
-            write(self.tools / "bin" / REVIEW, f'#!/bin/sh\nexec env {words} "$@"\n', 0o755)
-            self.settings |= own | {"PKG_CONFIG_PATH": f"{prefix}/lib/pkgconfig", "LD_LIBRARY_PATH": f"{prefix}/lib"}
+        programs = {name: built(self.config.getoption(option), "all") for option, name in PROGRAMS.items()}
+        for name, program in programs.items():
+            crate = name.replace("-", "_")
+            place = self.folder / "crates" / crate / "out" / crate
+            place.parent.mkdir(parents=True)
+            place.symlink_to(program)
+        self.settings = reader.settings(self.tools, programs, self.config.getoption("prefix").resolve())
 
 
 class Block(pytest.Item):
@@ -153,7 +128,7 @@ class Block(pytest.Item):
     def shell(self, words, **how):
         settings = self.parent.settings
         if "stand-in" in self.said:
-            write(self.parent.tools / "stand-in" / self.said["stand-in"], RT, 0o755)
+            reader.write(self.parent.tools / "stand-in" / self.said["stand-in"], RT, 0o755)
             settings = settings | {"PATH": f"{self.parent.tools}/stand-in:{settings['PATH']}"}
         how |= {"cwd": self.parent.folder, "env": settings, "stdout": subprocess.PIPE, "text": True, "start_new_session": True}
         with subprocess.Popen(words, **how) as process:
@@ -165,12 +140,12 @@ class Block(pytest.Item):
         return subprocess.CompletedProcess(words, process.returncode, printed)
 
     def run_file(self):
-        write(self.parent.folder / self.said["file"], self.text)
+        reader.write(self.parent.folder / self.said["file"], self.text)
         assert f"`{self.said['file']}`" in self.path.read_text(), "the page doesn't name the file"
 
     def run_go(self):
         name = self.said["go"]
-        write(self.parent.folder / name / "main.go", self.text)
+        reader.write(self.parent.folder / name / "main.go", self.text)
         done = self.shell(
             [
                 "sh",
@@ -198,6 +173,6 @@ class Block(pytest.Item):
 
     def run_python(self):
         assert ">>>" in self.text, "it has no example"
-        write(self.parent.tools / "block.txt", self.text)
+        reader.write(self.parent.tools / "block.txt", self.text)
         done = self.shell([sys.executable, "-m", "doctest", self.parent.tools / "block.txt"], stderr=subprocess.STDOUT)
         self.compare(done.stdout, "")
