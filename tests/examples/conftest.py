@@ -42,7 +42,7 @@ class Place:
 
     def __init__(self, folder: Path, program: Path, prefix: Path | None = None) -> None:
         self.folder = folder
-        for name in "examples", "recipes", "bindings/rust":
+        for name in "examples", "bindings/rust":
             shutil.copytree(TOP / name, folder / name, ignore=shutil.ignore_patterns("target", "Cargo.lock", "bazel-*"))
         (folder / "testdata").symlink_to(TOP / "testdata")
         self.settings: dict[str, str] = reader.settings(folder, {"bpfcanon-object": program}, prefix)

@@ -52,7 +52,7 @@ def test_members_whose_types_have_no_name(object_program: Path, prefix: Path, tm
 def test_cmake_follows_headers(object_program: Path, tmp_path: Path) -> None:
     """A header of the source changes, and each output is made again, of the one before it."""
     commands = """
-        cp recipes/count.c examples/cmake && cd examples/cmake && touch more.h && echo '#include "more.h"' >> count.c
+        cp testdata/count.c examples/cmake && cd examples/cmake && touch more.h && echo '#include "more.h"' >> count.c
         cmake -G Ninja -S . -B build > message && cmake --build build -- --quiet
         echo 'int more = 1;' > more.h && cmake --build build -- --quiet
         bpfcanon-object canon build/count.o | cmp - build/count.canonical.o && cmp build/count.canonical.o build/image
@@ -65,7 +65,7 @@ def test_cmake_follows_headers(object_program: Path, tmp_path: Path) -> None:
 def test_dask_status(object_program: Path, prefix: Path, tmp_path: Path) -> None:
     """Folders below are included, and what can't be read doesn't end the work on other files."""
     place = Place(tmp_path, object_program, prefix)
-    compiled = "mkdir -p objects/below && clang -target bpfel -O2 -g -DMAP=packets -c recipes/count.c -o objects/packets.o"
+    compiled = "mkdir -p objects/below && clang -target bpfel -O2 -g -DMAP=packets -c testdata/count.c -o objects/packets.o"
     count = "/usr/bin/python3 examples/dask/keys.py objects | sed 's/[0-9a-f]\\{64\\}/../'"
     done = place.follow(f"{compiled} && cp objects/packets.o objects/below && {count} && ln -s none objects/below/none.o && {count}")
     assert (done.returncode, done.stdout) == (1, "2 ..\n1 not read: No such file or directory\n2 ..\n"), done.stderr

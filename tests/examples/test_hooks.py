@@ -14,7 +14,7 @@ COMPILE = "clang -target bpfel -mcpu=v3 -O2 -g -c"
 PROJECT = f"""
 git init -q project && cd project && mkdir below
 git config user.name reader && git config user.email reader@example.org
-{COMPILE} -DMAP=packets ../recipes/count.c -o count.o && {COMPILE} -DMAP=errors ../recipes/count.c -o below/errors.o
+{COMPILE} -DMAP=packets ../testdata/count.c -o count.o && {COMPILE} -DMAP=errors ../testdata/count.c -o below/errors.o
 bpfcanon-object key count.o below/errors.o > objects.keys
 """
 INSTALL = {

@@ -64,7 +64,7 @@ def stripped(loader: Loader) -> str:
 
 def other_comment(loader: Loader) -> str:
     source = loader.folder / "bin" / "commented.c"
-    source.write_text("/* a comment\n */\n" + (TOP / "recipes" / "count.c").read_text())
+    source.write_text("/* a comment\n */\n" + (TOP / "testdata" / "count.c").read_text())
     assert loader.compile(source, "commented.o", "-DMAP=packets", within="bin") != (loader.folder / "count.o").read_bytes()
     return "commented.o"
 
@@ -91,7 +91,7 @@ def test_attack(loader: Loader, attack: str) -> None:
 
 
 def test_other_object(loader: Loader) -> None:
-    loader.compile(loader.folder / "recipes" / "count.c", "errors.o", "-DMAP=errors")
+    loader.compile(loader.folder / "testdata" / "count.c", "errors.o", "-DMAP=errors")
     assert_refused(loader.load("errors.o"))
 
 

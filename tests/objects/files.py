@@ -26,7 +26,7 @@ SOURCES: tuple[tuple[str, tuple[tuple[str, ...], ...]], ...] = (
     ("tests/objects/sources/externs.c", (DEBUG,)),
     ("tests/objects/sources/operations.c", (DEBUG,)),
     ("tests/objects/sources/plain.c", (PLAIN, DEBUG)),
-    ("recipes/count.c", (("-g", "-DMAP=packets"), ("-g", "-DMAP=errors"))),
+    ("testdata/count.c", (("-g", "-DMAP=packets"), ("-g", "-DMAP=errors"))),
     ("testdata/packet_filter.c", (DEBUG,)),
     ("testdata/flow_table.c", (DEBUG,)),
     ("testdata/hash_words.c", (PLAIN, DEBUG)),

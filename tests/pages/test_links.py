@@ -90,7 +90,7 @@ def test_names():
 # ---- an installation, which has some of the pages
 
 MESON = (TOP / "meson.build").read_text()
-INSTALLED = {*re.findall(r"'((?:recipes|testdata)/\w+\.c|docs/\w+\.py|[A-Z]+(?:\.md)?)'", MESON)}
+INSTALLED = {*re.findall(r"'(testdata/\w+\.c|docs/\w+\.py|[A-Z]+(?:\.md)?)'", MESON)}
 INSTALLED |= {f"docs/{page}.md" for page in re.findall(r"'([A-Z]+)'", re.search(r"^foreach page : \[(.*)\]$", MESON, re.MULTILINE)[1])}
 
 
