@@ -2,9 +2,6 @@
 
 import struct
 
-from tests.command import Ran
-
-USAGE = Ran(2, b"", b"usage: bpfcanon COMMAND [--order little|big] [--to little|big] [--other little|big] [--split N]\n")
 EXIT = bytes.fromhex("95 00 00 00 00 00 00 00")
 MOV_BIG = bytes.fromhex("bf 12 00 00 00 00 00 00")
 MOV = bytes.fromhex("bf 21 00 00 00 00 00 00")
