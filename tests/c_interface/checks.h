@@ -15,64 +15,24 @@
 
 static long checks, failed;
 
-/* What a call returns, by its status. A field that isn't named is 0. */
-static inline bpfcanon_answer ended(uint32_t status)
-{
-	return (bpfcanon_answer){ .status = status };
-}
+/* What a call returns. A field that isn't named is 0. */
+#define ANSWER(...) ((bpfcanon_answer){ __VA_ARGS__ })
+#define ended(code) ANSWER(.status = (code))
+#define written(len) ANSWER(.written = (len))
+#define with_types(count) ANSWER(.types = (count))
+#define with_groups(mask) ANSWER(.groups = (mask))
+#define fault(what, at) ANSWER(.status = BPFCANON_STATUS_FAULT, .cause = (what), .offset = (at))
+#define second_fault(what, at) ANSWER(.status = BPFCANON_STATUS_FAULT_SECOND, .cause = (what), .offset = (at))
+#define line_fault(what, at) ANSWER(.status = BPFCANON_STATUS_FAULT, .cause = (what), .line = (at))
+#define needs(len) ANSWER(.status = BPFCANON_STATUS_ROOM, .needed = (len))
+/* Of the start of a stream, with complete instructions of this length, which a fault may follow. */
+#define front_of(len) ANSWER(.read = (len), .written = (len))
+#define front_before(len, what, at) ANSWER(.status = BPFCANON_STATUS_FAULT, .cause = (what), .offset = (at), .read = (len), .written = (len))
 
-static inline bpfcanon_answer written(size_t len)
-{
-	return (bpfcanon_answer){ .status = BPFCANON_STATUS_DONE, .written = len };
-}
-
-static inline bpfcanon_answer with_types(uint32_t count)
-{
-	return (bpfcanon_answer){ .status = BPFCANON_STATUS_DONE, .types = count };
-}
-
-static inline bpfcanon_answer with_groups(uint32_t mask)
-{
-	return (bpfcanon_answer){ .status = BPFCANON_STATUS_DONE, .groups = mask };
-}
-
-static inline bpfcanon_answer fault(uint32_t cause, uint64_t offset)
-{
-	return (bpfcanon_answer){ .status = BPFCANON_STATUS_FAULT, .cause = cause, .offset = offset };
-}
-
-static inline bpfcanon_answer second_fault(uint32_t cause, uint64_t offset)
-{
-	return (bpfcanon_answer){ .status = BPFCANON_STATUS_FAULT_SECOND, .cause = cause, .offset = offset };
-}
-
-static inline bpfcanon_answer line_fault(uint32_t cause, uint64_t line)
-{
-	return (bpfcanon_answer){ .status = BPFCANON_STATUS_FAULT, .cause = cause, .line = line };
-}
-
-static inline bpfcanon_answer needs(size_t len)
-{
-	return (bpfcanon_answer){ .status = BPFCANON_STATUS_ROOM, .needed = len };
-}
-
-/* What the call on the start of a stream returns for complete instructions of this length. */
-static inline bpfcanon_answer front_of(size_t len)
-{
-	return (bpfcanon_answer){ .status = BPFCANON_STATUS_DONE, .read = len, .written = len };
-}
-
-/* Likewise if a fault follows them. */
-static inline bpfcanon_answer front_before(size_t len, uint32_t cause, uint64_t offset)
-{
-	return (bpfcanon_answer){ .status = BPFCANON_STATUS_FAULT, .cause = cause, .offset = offset, .read = len, .written = len };
-}
-
+/* An answer has no padding. */
 static inline int is(bpfcanon_answer one, bpfcanon_answer right)
 {
-	return one.status == right.status && one.cause == right.cause && one.offset == right.offset && one.line == right.line
-		&& one.read == right.read && one.written == right.written && one.needed == right.needed && one.types == right.types
-		&& one.groups == right.groups;
+	return !memcmp(&one, &right, sizeof one);
 }
 
 /* Whether all of these bytes are still 0xaa. */
@@ -106,21 +66,32 @@ static inline uint8_t *repeat(const void *bytes, size_t len, size_t times)
 	return all;
 }
 
-static inline uint8_t *load(const char *folder, const char *name, size_t *len)
+static inline uint8_t *load_file(const char *path, size_t *len)
 {
-	char path[4096];
-	uint8_t *bytes = allocate(1 << 20);
-	FILE *file;
+	FILE *file = fopen(path, "rb");
+	size_t capacity = 1 << 20;
+	uint8_t *bytes = allocate(capacity);
 
-	snprintf(path, sizeof path, "%s/%s", folder, name);
-	file = fopen(path, "rb");
 	if (!file) {
 		perror(path);
 		exit(2);
 	}
-	*len = fread(bytes, 1, 1 << 20, file);
+	*len = 0;
+	for (size_t more; (more = fread(bytes + *len, 1, capacity - *len, file)) > 0;) {
+		*len += more;
+		if (*len == capacity && !(bytes = realloc(bytes, capacity *= 2)))
+			exit(2);
+	}
 	fclose(file);
 	return bytes;
+}
+
+static inline uint8_t *load(const char *folder, const char *name, size_t *len)
+{
+	char path[4096];
+
+	snprintf(path, sizeof path, "%s/%s", folder, name);
+	return load_file(path, len);
 }
 
 /* Prints the last line of a test and returns its exit status. */

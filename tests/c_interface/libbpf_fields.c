@@ -15,26 +15,6 @@ struct file {
 	struct btf *btf;
 };
 
-static uint8_t *load_whole(const char *path, size_t *len)
-{
-	FILE *file = fopen(path, "rb");
-	size_t capacity = 1 << 20;
-	uint8_t *bytes = allocate(capacity);
-
-	if (!file) {
-		perror(path);
-		exit(2);
-	}
-	*len = 0;
-	for (size_t more; (more = fread(bytes + *len, 1, capacity - *len, file)) > 0;) {
-		*len += more;
-		if (*len == capacity && !(bytes = realloc(bytes, capacity *= 2)))
-			exit(2);
-	}
-	fclose(file);
-	return bytes;
-}
-
 /* Whether the name of a record is that at an offset of libbpf's string section. */
 static int is_name(const struct file *file, uint32_t name, uint32_t name_len, uint32_t offset)
 {
@@ -180,7 +160,7 @@ static void compare_file(const char *path)
 	struct file file;
 	bpfcanon_answer answer;
 
-	file.bytes = load_whole(path, &file.len);
+	file.bytes = load_file(path, &file.len);
 	file.btf = btf__new(file.bytes, file.len);
 	answer = bpfcanon_btf_decode_new(file.bytes, file.len, &file.types, &file.items);
 	CHECK(answer.status == BPFCANON_STATUS_DONE && file.btf);

@@ -2,7 +2,7 @@
  * Each row of testdata/vectors.tsv by each call that reads it, with a buffer of each length that matters: 0, one byte too
  * few, and the needed length followed by bytes that must not change. testdata/README.md lists the columns. A line is
  * printed for each row that is wrong, and each kind has a row.
- * usage: vectors FILE [KIND], with the rows of all kinds or of one
+ * usage: vectors FILE
  */
 #include "checks.h"
 
@@ -220,8 +220,7 @@ static const struct {
 int main(int argc, char **argv)
 {
 	static char line[1 << 16];
-	FILE *file = argc == 2 || argc == 3 ? fopen(argv[1], "r") : NULL;
-	const char *kind = argc == 3 ? argv[2] : NULL;
+	FILE *file = argc == 2 ? fopen(argv[1], "r") : NULL;
 	size_t rows[COUNT(kinds)] = { 0 };
 
 	if (!file)
@@ -234,7 +233,7 @@ int main(int argc, char **argv)
 		for (char *field = strtok(line, "\t\n"); field && count < FIELDS; field = strtok(NULL, "\t\n"))
 			fields[count++] = field;
 		for (size_t k = 0; count && k < COUNT(kinds); k++) {
-			if (strcmp(fields[0], kinds[k].kind) || (kind && strcmp(kind, kinds[k].kind)))
+			if (strcmp(fields[0], kinds[k].kind))
 				continue;
 			kinds[k].run();
 			rows[k]++;
@@ -246,7 +245,6 @@ int main(int argc, char **argv)
 	}
 	fclose(file);
 	for (size_t k = 0; k < COUNT(kinds); k++)
-		if (!kind || !strcmp(kind, kinds[k].kind))
-			CHECK(rows[k] > 0);
+		CHECK(rows[k] > 0);
 	return end("vectors");
 }
