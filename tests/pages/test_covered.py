@@ -1,12 +1,13 @@
 """Compares the table of docs/GUIDE.md on what a signature covers with object files that differ in the change of a row."""
 
+import importlib
 import subprocess
 
 import pytest
 
+from docs.canon import SHF_EXECINSTR
 from tests import TOP
 from tests.command import SECONDS
-from tests.objects.elf_file import EXECINSTR, ElfFile
 from tests.sources.tables import cells
 
 # A field that is read by CO-RE, variables, a map, a license, a function, and a program. A macro chooses each.
@@ -59,10 +60,11 @@ def covered(change, folder, bpfcanon, object_program):
     macros = [f"-D{name}={word}" for name, word in words.items()]
     how = {"cwd": folder, "check": True, "timeout": SECONDS, "stdout": subprocess.PIPE}
     subprocess.run(["clang", "-mcpu=v3", "-O2", *flags, *macros, "-c", "program.c", "-o", "program.o"], **how)
-    file = ElfFile.read((folder / "program.o").read_bytes())
-    order = bpfcanon.Order.LITTLE if file.sign == "<" else bpfcanon.Order.BIG
-    code = [bpfcanon.insn_canon(it.content, order=order) for it in file.sections if it.flags & EXECINSTR and it.content]
-    types = bpfcanon.btf_canon(file.find(b".BTF").content)
+    with (folder / "program.o").open("rb") as stream:
+        elf = importlib.import_module("elftools.elf.elffile").ELFFile(stream)
+        order = bpfcanon.Order.LITTLE if elf.little_endian else bpfcanon.Order.BIG
+        code = [bpfcanon.insn_canon(it.data(), order=order) for it in elf.iter_sections() if it["sh_flags"] & SHF_EXECINSTR and it["sh_size"]]
+        types = bpfcanon.btf_canon(elf.get_section_by_name(".BTF").data())
     return code, types, subprocess.run([object_program, "canon", "program.o"], **how).stdout
 
 
@@ -70,7 +72,7 @@ def test_rows():
     assert list(rows()) == list(ROWS)
 
 
-@pytest.mark.needs("clang")
+@pytest.mark.needs("clang", "elftools")
 def test_changes(bpfcanon, object_program, tmp_path):
     table, how = rows(), (tmp_path, bpfcanon, object_program)
     first = covered({}, *how)
