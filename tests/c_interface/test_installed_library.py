@@ -62,8 +62,8 @@ def test_files(prefix):
     paths = {str(path.relative_to(prefix)): path for part in ("include", "lib") for path in (prefix / part).rglob("*") if not path.is_dir()}
     assert {name: path.stat().st_mode & 0o777 for name, path in paths.items() if not path.is_symlink()} == wanted
     assert {name: os.readlink(path) for name, path in paths.items() if path.is_symlink()} == links
-    for name, source in ("include/bpfcanon.h", CAPI / "bpfcanon.h"), ("share/man/man3/bpfcanon.3", TOP / "man" / "bpfcanon.3"):
-        assert (prefix / name).read_bytes() == source.read_bytes()
+    assert (prefix / "include/bpfcanon.h").read_bytes() == (CAPI / "bpfcanon.h").read_bytes()
+    assert (prefix / "share/man/man3/bpfcanon.3").read_bytes() == subprocess.check_output([TOP / "tools" / "to_manual"])
 
 
 def test_exports(shared):

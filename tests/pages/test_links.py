@@ -7,6 +7,7 @@ import re
 import pytest
 
 from tests import TOP
+from tests.pages.manuals import manual_pages
 
 
 PAGES = [TOP / name for name in ("README.md", "SECURITY.md", "CHANGELOG.md", "testdata/README.md", "bench/README.md", "tests/objects/README.md")]
@@ -102,8 +103,8 @@ def test_installed(place):
     assert paths - INSTALLED == set()
 
 
-@pytest.mark.parametrize("page", sorted(TOP.glob("man/*.[13]")), ids=lambda it: it.name)
+@pytest.mark.parametrize("page", manual_pages().values(), ids=manual_pages())
 def test_manual(page):
     """So do the documents that a manual page names, by their place below the prefix."""
-    names = re.findall(r"share/doc/bpfcanon/([\w./]*\w)", page.read_text().replace(r"\-", "-"))
+    names = re.findall(r"share/doc/bpfcanon/([\w./]*\w)", page.replace(r"\-", "-"))
     assert names and set(names) - INSTALLED - {"docs"} == set()

@@ -10,6 +10,7 @@ from tests import TOP
 from tests.command import SECONDS
 from tests.commands import OPTIONS
 from tests.needs import need
+from tests.pages.manuals import manual_pages
 from tests.process.test_limits import BTF_LIMIT
 
 HEADER = (TOP / "capi" / "bpfcanon.h").read_text()
@@ -32,7 +33,7 @@ COMMANDS = {
     "bpfcanon-review": long_options(r'made = add(?=(.*?)(?:made = |return ))\("(\w+)"', REVIEW),
 }
 VALUES = dict.fromkeys(("--order", "--to", "--other"), ["big", "little"]) | {"--format": re.findall(r"\w+", FORMATS), "--target": GROUPS}
-PAGES = {it.name: it for it in sorted(TOP.glob("man/*.[13]"))}
+PAGES = manual_pages()
 
 
 def complete(name, *words):
@@ -71,10 +72,10 @@ def test_zsh(name):
 def shown(page):
     """What man prints of a page, in which lines are long. It has no warning."""
     need("man")
-    how = {"env": os.environ | {"MANWIDTH": "500", "LC_ALL": "C"}, "capture_output": True, "timeout": SECONDS}
-    done = subprocess.run(["man", "--warnings", "-l", page], **how)
-    assert (done.returncode, done.stderr) == (0, b"")
-    return done.stdout.decode()
+    how = {"env": os.environ | {"MANWIDTH": "500", "LC_ALL": "C"}, "capture_output": True, "text": True, "timeout": SECONDS}
+    done = subprocess.run(["man", "--warnings", "-l", "-"], input=page, **how)
+    assert (done.returncode, done.stderr) == (0, "")
+    return done.stdout
 
 
 @pytest.mark.parametrize("name", COMMANDS)
@@ -99,21 +100,21 @@ def test_messages():
 def test_page(name):
     """A page has the version, and names the others."""
     page = shown(PAGES[name])
-    assert f'"bpfcanon {re.search("BPFCANON_VERSION .(.*).$", HEADER, re.MULTILINE)[1]}"' in PAGES[name].read_text()
+    assert f'"bpfcanon {re.search("BPFCANON_VERSION .(.*).$", HEADER, re.MULTILINE)[1]}"' in PAGES[name]
     last = page.partition("SEE ALSO")[2]
     assert [it for it in PAGES if it != name and not re.search(rf"(?<![\w-]){it[:-2]}\({it[-1]}\)", last)] == []
 
 
-def declared(text):
-    """The calls that a header or a page declares, and the fields of structs, with single blanks."""
+def calls_of(text):
+    """The calls that a header or a page declares, with single blanks."""
     calls = re.findall(r"^ *((?:bpfcanon_\w+|void|const char) \*?bpfcanon_\w+\([^;]*;)", text, re.MULTILINE)
-    structs = re.findall(r"typedef struct (\w+) \{(.*?)\} \1;", text, re.DOTALL)
-    return sorted(" ".join(it.split()) for it in calls), {name: re.findall(r"(\w+) (\w+);", body) for name, body in structs}
+    return sorted(" ".join(call.split()) for call in calls)
 
 
 def test_library():
-    """The page of section 3 declares the calls of the header, and the structs that it shows."""
-    (calls, structs), (right_calls, right_structs) = declared(shown(PAGES["bpfcanon.3"])), declared(HEADER)
-    assert calls == right_calls and "bpfcanon_answer" in structs
-    assert structs == {it: right_structs[it] for it in structs}
+    """The page that is made of the header declares its calls and names each of them with its description."""
+    calls = calls_of(HEADER)
+    assert len(calls) > 20 and calls == calls_of(PAGES["bpfcanon.3"].partition("DESCRIPTION")[0])
+    described = " ".join(re.findall(r"^\.TP\n\.BR (.*)$", PAGES["bpfcanon.3"], re.MULTILINE))
+    assert all(re.search(rf"\b{name}\b", described) for name in re.findall(r"bpfcanon_\w+(?=\()", " ".join(calls)))
     assert f"\n#define BPFCANON_BTF_MAX {BTF_LIMIT}\n" in HEADER
