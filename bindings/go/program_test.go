@@ -28,6 +28,48 @@ var values = []bpfcanon.Insn{
 	bpfcanon.Exit{},
 }
 
+// A line of a listing with its instruction: the other forms, and the kinds of a wide load.
+var shown = map[string]bpfcanon.Insn{
+	"sub32 r3, -4":            bpfcanon.ALU{Width: bpfcanon.W32, Op: bpfcanon.ALUSub, Dst: 3, Arg: bpfcanon.Imm(-4)},
+	"movsx8_32 r1, r2":        bpfcanon.Movsx{Form: bpfcanon.W32From8, Dst: 1, Src: 2},
+	"movsx16_32 r1, r2":       bpfcanon.Movsx{Form: bpfcanon.W32From16, Dst: 1, Src: 2},
+	"movsx8 r1, r2":           bpfcanon.Movsx{Form: bpfcanon.W64From8, Dst: 1, Src: 2},
+	"movsx16 r1, r2":          bpfcanon.Movsx{Form: bpfcanon.W64From16, Dst: 1, Src: 2},
+	"movsx32 r1, r2":          bpfcanon.Movsx{Form: bpfcanon.W64From32, Dst: 1, Src: 2},
+	"neg32 r3":                bpfcanon.Neg{Width: bpfcanon.W32, Dst: 3},
+	"le16 r4":                 bpfcanon.Swap{Kind: bpfcanon.SwapLe, Bits: bpfcanon.B16, Dst: 4},
+	"be32 r4":                 bpfcanon.Swap{Kind: bpfcanon.SwapBe, Bits: bpfcanon.B32, Dst: 4},
+	"swap64 r4":               bpfcanon.Swap{Kind: bpfcanon.SwapBytes, Bits: bpfcanon.B64, Dst: 4},
+	"ja +5":                   bpfcanon.Jump{Off: 5},
+	"ja32 -6":                 bpfcanon.JumpLong{Imm: -6},
+	"jsgt r3, r4, -7":         bpfcanon.Branch{Width: bpfcanon.W64, Op: bpfcanon.BranchSgt, Dst: 3, Arg: bpfcanon.Reg(4), Off: -7},
+	"call 8":                  bpfcanon.CallHelper{ID: 8},
+	"call_local -9":           bpfcanon.CallLocal{Imm: -9},
+	"call_btf 10, 11":         bpfcanon.CallBTF{ID: 10, Off: 11},
+	"ldxb r5, [r6+7]":         bpfcanon.Load{Size: bpfcanon.SizeB, Dst: 5, Src: 6, Off: 7},
+	"ldxsh r5, [r6-7]":        bpfcanon.LoadSigned{Size: bpfcanon.SizeH, Dst: 5, Src: 6, Off: -7},
+	"stw [r7+8], -9":          bpfcanon.StoreImm{Size: bpfcanon.SizeW, Dst: 7, Off: 8, Imm: -9},
+	"lddw_map r1, 2":          bpfcanon.Wide{Dst: 1, What: bpfcanon.MapFD{FD: 2}},
+	"lddw_map_value r1, 2, 3": bpfcanon.Wide{Dst: 1, What: bpfcanon.MapValueFD{FD: 2, Offset: 3}},
+	"lddw_var r1, 4, 5":       bpfcanon.Wide{Dst: 1, What: bpfcanon.VarAddr{ID: 4, Next: 5}},
+	"lddw_code r1, 6":         bpfcanon.Wide{Dst: 1, What: bpfcanon.CodeAddr{Offset: 6}},
+	"lddw_idx r1, 7":          bpfcanon.Wide{Dst: 1, What: bpfcanon.MapIdx{Index: 7}},
+	"lddw_idx_value r1, 8, 9": bpfcanon.Wide{Dst: 1, What: bpfcanon.MapValueIdx{Index: 8, Offset: 9}},
+	"ldabsw 10":               bpfcanon.PacketAbs{Size: bpfcanon.SizeW, Imm: 10},
+	"ldindb r1, 11":           bpfcanon.PacketInd{Size: bpfcanon.SizeB, Src: 1, Imm: 11},
+}
+
+func TestInstructionsAreThoseOfTheListing(t *testing.T) {
+	for line, want := range shown {
+		program := must(bpfcanon.ReadInsns(bpfcanon.Big, []byte(line)))
+		got, err := bpfcanon.EncodeInsns(bpfcanon.Big, []bpfcanon.Insn{want})
+		wantBytes(t, line, got, err, program)
+		if got := must(bpfcanon.DecodeInsns(bpfcanon.Big, program)).Insns(); len(got) != 1 || got[0] != want {
+			t.Errorf("%s is %#v, want %#v", line, got, want)
+		}
+	}
+}
+
 // All of `insns` as one program in a byte order.
 func together(t *testing.T, order bpfcanon.Order) (program []byte) {
 	t.Helper()

@@ -3,14 +3,18 @@ package bpfcanon_test
 import (
 	"encoding/binary"
 	"encoding/hex"
+	"fmt"
 	"os"
 	"path/filepath"
-	"strconv"
+	"reflect"
 	"strings"
 	"testing"
 
 	"bpfcanon"
 )
+
+// The tests from C have each row of testdata/vectors.tsv by each call on bytes. Here are the values that are decoded from the rows, and a
+// sample of each call.
 
 // The fields of each row of a kind of testdata/vectors.tsv, without the kind. testdata/README.md describes the columns.
 func vectors(t testing.TB, kind string) (rows [][]string) {
@@ -30,14 +34,6 @@ func vectors(t testing.TB, kind string) (rows [][]string) {
 	return rows
 }
 
-// Checks each row of a kind in a subtest, which has its name.
-func eachVector(t *testing.T, kind string, check func(t *testing.T, row []string)) {
-	t.Helper()
-	for _, row := range vectors(t, kind) {
-		t.Run(row[0], func(t *testing.T) { check(t, row) })
-	}
-}
-
 // The bytes of a field of hexadecimal digits.
 func data(t testing.TB, field string) []byte {
 	t.Helper()
@@ -48,71 +44,55 @@ func data(t testing.TB, field string) []byte {
 	return b
 }
 
-// The bytes of a field with a listing.
-func text(t *testing.T, field string) []byte {
-	t.Helper()
-	if field == "-" {
-		return nil
-	}
-	s, err := strconv.Unquote(`"` + field + `"`)
-	if err != nil {
-		t.Fatal(field, err)
-	}
-	return []byte(s)
-}
-
-// The names of a group and of the group that it includes.
-func brings(group string) string {
-	if name := strings.TrimSuffix(group, "64"); name != group {
-		return name + "32 " + group
-	}
-	return group
-}
-
-// Checks that a program in each byte order is decoded to the instruction of a line, and that this is
-// encoded to the program in each byte order.
-func wantDecoded(t *testing.T, line string, order bpfcanon.Order, programs [][]byte, group string) {
-	t.Helper()
-	decoded, err := bpfcanon.DecodeInsns(order, programs[order])
-	if err != nil || insnListing(decoded.Insns()) != line+"\n" {
-		t.Errorf("%s: decoded %v, %v", line, decoded, err)
-		return
-	}
-	insn := decoded.At(0)
-	if decoded.Offset(0) != 0 || decoded.Group(0).String() != group || decoded.Form(0) != bpfcanon.FormOf(insn) {
-		t.Errorf("%s: at %d, %v, %v", line, decoded.Offset(0), decoded.Group(0), decoded.Form(0))
-	}
-	for _, to := range orders {
-		got, err := bpfcanon.EncodeInsns(to, []bpfcanon.Insn{insn})
-		wantBytes(t, line+", encoded", got, err, programs[to])
-	}
-}
-
-func TestInstructions(t *testing.T) {
-	exit := unhex(t, insns[5].little)
-	eachVector(t, "insn", func(t *testing.T, row []string) {
-		line, programs := row[0], [][]byte{data(t, row[1]), data(t, row[2])}
+// Each instruction is decoded from each byte order and encoded in each.
+func TestInstructionsOfVectors(t *testing.T) {
+	for _, row := range vectors(t, "insn") {
+		line, programs, group := row[0], [][]byte{data(t, row[1]), data(t, row[2])}, row[3]
 		for _, order := range orders {
-			if same, err := bpfcanon.SameInsns(order, programs[order], bpfcanon.Big, exit); same != (line == "exit") || err != nil {
-				t.Errorf("%s, compared with exit: %v, %v", line, same, err)
+			decoded, err := bpfcanon.DecodeInsns(order, programs[order])
+			if err != nil || decoded.Len() != 1 {
+				t.Fatalf("%s: %v, %v", line, decoded, err)
+			}
+			insn := decoded.At(0)
+			if decoded.Offset(0) != 0 || decoded.Group(0).String() != group || decoded.Form(0) != bpfcanon.FormOf(insn) {
+				t.Errorf("%s: at %d, %v, %v", line, decoded.Offset(0), decoded.Group(0), decoded.Form(0))
+			}
+			// The name of its operation is in the mnemonic.
+			if op := reflect.ValueOf(insn).FieldByName("Op"); op.IsValid() && !strings.Contains(line, fmt.Sprint(op)) {
+				t.Errorf("%s is %v", line, insn)
 			}
 			for _, to := range orders {
-				got, err := bpfcanon.CanonInsns(order, to, programs[order])
+				got, err := bpfcanon.EncodeInsns(to, []bpfcanon.Insn{insn})
 				wantBytes(t, line, got, err, programs[to])
-				if same, err := bpfcanon.SameInsns(order, programs[order], to, programs[to]); !same || err != nil {
-					t.Errorf("%s, compared: %v, %v", line, same, err)
+			}
+		}
+	}
+}
+
+func TestCallsOnInstructions(t *testing.T) {
+	var lines string
+	for _, row := range insns {
+		lines += row.line + "\n"
+	}
+	for _, order := range orders {
+		program := together(t, order)
+		for _, to := range orders {
+			got, err := bpfcanon.CanonInsns(order, to, program)
+			wantBytes(t, "converted", got, err, together(t, to))
+			for want, other := range map[bool][]byte{true: together(t, to), false: nil} {
+				if same, err := bpfcanon.SameInsns(order, program, to, other); same != want || err != nil {
+					t.Errorf("same: %v, %v, want %v", same, err, want)
 				}
 			}
-			got, err := bpfcanon.ShowInsns(order, programs[order])
-			wantBytes(t, line, got, err, []byte(line+"\n"))
-			got, err = bpfcanon.ReadInsns(order, []byte(line))
-			wantBytes(t, line, got, err, programs[order])
-			if groups, err := bpfcanon.GroupsOf(order, programs[order]); groups.String() != brings(row[3]) || err != nil {
-				t.Errorf("%s: groups %v, %v", line, groups, err)
-			}
-			wantDecoded(t, line, order, programs, row[3])
 		}
-	})
+		got, err := bpfcanon.ShowInsns(order, program)
+		wantBytes(t, "shown", got, err, []byte(lines))
+		got, err = bpfcanon.ReadInsns(order, []byte(lines))
+		wantBytes(t, "read", got, err, program)
+		if groups, err := bpfcanon.GroupsOf(order, program); groups.String() != "base32 base64 atomic32 atomic64" || err != nil {
+			t.Errorf("groups %v, %v", groups, err)
+		}
+	}
 }
 
 // Checks that calls on an input ended with this fault, and a comparison with it as the second input likewise.
@@ -140,51 +120,43 @@ func TestFaultyInstructions(t *testing.T) {
 			t.Errorf("beside the error: same %v, %v as the second", same, sameSecond)
 		}
 	}
-}
-
-func TestListings(t *testing.T) {
-	eachVector(t, "listing", func(t *testing.T, row []string) {
-		program, err := bpfcanon.ReadInsns(bpfcanon.Little, text(t, row[1]))
-		if err != nil {
-			t.Errorf("%s: %v", row[0], err)
-		}
-		got, err := bpfcanon.ShowInsns(bpfcanon.Little, program)
-		wantBytes(t, row[0], got, err, text(t, row[2]))
-	})
 	_, err := bpfcanon.ReadInsns(bpfcanon.Little, []byte("exit\nleave\n"))
 	wantFault(t, "a listing", err, bpfcanon.FaultError{Cause: bpfcanon.ErrLineWord, Line: 2})
 }
 
-func TestTypes(t *testing.T) {
-	first := vectors(t, "btf")[0]
-	eachVector(t, "btf", func(t *testing.T, row []string) {
+// The types are decoded from each file and encoded in each byte order.
+func TestTypesOfVectors(t *testing.T) {
+	for _, row := range vectors(t, "btf") {
 		canonical := [][]byte{data(t, row[2]), data(t, row[3])}
 		for _, given := range [][]byte{data(t, row[1]), canonical[0], canonical[1]} {
-			for _, to := range orders {
-				got, err := bpfcanon.CanonBTF(to, given)
-				wantBytes(t, row[0], got, err, canonical[to])
-			}
-			got, err := bpfcanon.ShowBTF(given)
-			wantBytes(t, row[0], got, err, text(t, row[5]))
-			if count, err := bpfcanon.CheckBTF(given); strconv.Itoa(count) != row[4] || err != nil {
-				t.Errorf("%s: %d types, %v", row[0], count, err)
-			}
-			for _, other := range [][]string{row, first} {
-				if same, err := bpfcanon.SameBTF(given, data(t, other[2])); same != (row[2] == other[2]) || err != nil {
-					t.Errorf("%s, compared with %s: %v, %v", row[0], other[0], same, err)
-				}
-			}
-			decoded, err := bpfcanon.DecodeBTF(given)
-			if err != nil {
-				t.Errorf("%s, decoded: %v", row[0], err)
-				continue
+			decoded := decode(t, given)
+			if fmt.Sprint(decoded.Len()) != row[4] {
+				t.Errorf("%s: %d types, want %s", row[0], decoded.Len(), row[4])
 			}
 			for _, to := range orders {
 				got, err := bpfcanon.EncodeBTF(to, decoded.Types())
-				wantBytes(t, row[0]+", encoded", got, err, canonical[to])
+				wantBytes(t, row[0], got, err, canonical[to])
 			}
 		}
-	})
+	}
+}
+
+func TestCallsOnTypes(t *testing.T) {
+	files := [][]byte{btf(binary.LittleEndian, words, ownStrings), btf(binary.BigEndian, words, ownStrings)}
+	for _, file := range files {
+		for to, want := range files {
+			got, err := bpfcanon.CanonBTF(bpfcanon.Order(to), file)
+			wantBytes(t, "canonical", got, err, want)
+			for want, other := range map[bool][]byte{true: want, false: btf(binary.LittleEndian, nil, "\x00")} {
+				if same, err := bpfcanon.SameBTF(file, other); same != want || err != nil {
+					t.Errorf("same: %v, %v, want %v", same, err, want)
+				}
+			}
+		}
+		if count, err := bpfcanon.CheckBTF(file); count != 3 || err != nil {
+			t.Errorf("%d types, %v", count, err)
+		}
+	}
 }
 
 // A PTR to a type that isn't there.

@@ -13,8 +13,9 @@ from typing import Any, Callable, get_args
 
 import bpfcanon
 from bpfcanon import Btf, EncodeInsnError, NoSuchTypeError, Order, Program, TypeCycleError, insn_encode, insns
+from bpfcanon import insn_types as insn
 from bpfcanon.insn_types import Alu, AluOp, AtomicOp, Atomic, Branch, BranchOp, CallBtf, Exit, Imm, Insn, Jump, Load, LoadSigned
-from bpfcanon.insn_types import MapValueFd, Number, Reg, Size, StoreImm, Wide, Width
+from bpfcanon.insn_types import MapValueFd, MovsxForm, Number, Reg, Size, SmallSize, StoreImm, SwapBits, SwapKind, Wide, Width
 from bpfcanon.types import Const, Encoding, Int, Member, Struct, Typedef, Void
 
 from .samples import INSNS, btf, load, unhex
@@ -28,6 +29,36 @@ VALUES: list[Insn] = [
     Atomic(Width.W64, AtomicOp.CMPXCHG, Reg.R1, Reg.R2, -8),
     Exit(),
 ]
+# A line of a listing with its instruction: the other forms, and the kinds of a wide load.
+SHOWN: dict[str, Insn] = {
+    "sub32 r3, -4": Alu(Width.W32, AluOp.SUB, Reg.R3, Imm(-4)),
+    "movsx8_32 r1, r2": insn.Movsx(MovsxForm.W32_FROM8, Reg.R1, Reg.R2),
+    "movsx16_32 r1, r2": insn.Movsx(MovsxForm.W32_FROM16, Reg.R1, Reg.R2),
+    "movsx8 r1, r2": insn.Movsx(MovsxForm.W64_FROM8, Reg.R1, Reg.R2),
+    "movsx16 r1, r2": insn.Movsx(MovsxForm.W64_FROM16, Reg.R1, Reg.R2),
+    "movsx32 r1, r2": insn.Movsx(MovsxForm.W64_FROM32, Reg.R1, Reg.R2),
+    "neg32 r3": insn.Neg(Width.W32, Reg.R3),
+    "le16 r4": insn.Swap(SwapKind.LE, SwapBits.B16, Reg.R4),
+    "be32 r4": insn.Swap(SwapKind.BE, SwapBits.B32, Reg.R4),
+    "swap64 r4": insn.Swap(SwapKind.BYTES, SwapBits.B64, Reg.R4),
+    "ja +5": Jump(5),
+    "ja32 -6": insn.JumpLong(-6),
+    "jsgt r3, r4, -7": Branch(Width.W64, BranchOp.SGT, Reg.R3, Reg.R4, -7),
+    "call 8": insn.CallHelper(8),
+    "call_local -9": insn.CallLocal(-9),
+    "call_btf 10, 11": CallBtf(10, 11),
+    "ldxb r5, [r6+7]": Load(Size.B, Reg.R5, Reg.R6, 7),
+    "ldxsh r5, [r6-7]": LoadSigned(SmallSize.H, Reg.R5, Reg.R6, -7),
+    "stw [r7+8], -9": StoreImm(Size.W, Reg.R7, 8, -9),
+    "lddw_map r1, 2": Wide(Reg.R1, insn.MapFd(2)),
+    "lddw_map_value r1, 2, 3": Wide(Reg.R1, MapValueFd(2, 3)),
+    "lddw_var r1, 4, 5": Wide(Reg.R1, insn.VarAddr(4, 5)),
+    "lddw_code r1, 6": Wide(Reg.R1, insn.CodeAddr(6)),
+    "lddw_idx r1, 7": Wide(Reg.R1, insn.MapIdx(7)),
+    "lddw_idx_value r1, 8, 9": Wide(Reg.R1, insn.MapValueIdx(8, 9)),
+    "ldabsw 10": insn.PacketAbs(SmallSize.W, 10),
+    "ldindb r1, 11": insn.PacketInd(SmallSize.B, Reg.R1, 11),
+}
 # Values with a field that no instruction has, in a good field of its type or not.
 WRONG: list[Any] = [
     Alu(Width.W64, AluOp.MOV, 11, Imm(0)),  # type: ignore[arg-type]
@@ -70,6 +101,11 @@ class Programs(unittest.TestCase):
             self.assertEqual(list(program), VALUES)
             self.assertEqual(list(insns(code, order=order)), list(zip([0, 8, 24, 32, 40, 48], VALUES)))
             self.assertEqual(insn_encode(VALUES, to=order), code)
+
+    def test_instructions_are_those_of_the_listing(self) -> None:
+        code = bpfcanon.insn_read("\n".join(SHOWN), to=Order.BIG)
+        self.assertEqual(list(Program(code, order=Order.BIG)), list(SHOWN.values()))
+        self.assertEqual(insn_encode(SHOWN.values(), to=Order.BIG), code)
 
     def test_a_program_is_a_sequence(self) -> None:
         program = Program(b"".join(unhex(it[1]) for it in INSNS))

@@ -3,7 +3,10 @@
 mod rows;
 
 use bpfcanon::btf::{Btf, ResolveError, Type, TypeId};
-use bpfcanon::insn::{self, Insn, Program};
+use bpfcanon::insn::{
+    self, AluOp, AtomicOp, BranchOp, Insn, MovsxForm, Operand, Program, Reg, Size, SmallSize,
+    SwapBits, SwapKind, WideOf, Width,
+};
 use bpfcanon::Order;
 use rows::{file, load};
 use std::sync::mpsc;
@@ -144,6 +147,59 @@ fn iterators_know_their_length() {
     let encodings: Vec<_> = (0..len).flat_map(|it| program.bytes(it).unwrap()).copied().collect();
     assert_eq!(encodings, bytes);
     assert_eq!(insn::encode(Order::Big, program.iter().map(|(_, it)| it)), Ok(bytes));
+}
+
+/// A line of a listing with its instruction: each form, and each kind of a wide load.
+#[rustfmt::skip]
+fn shown() -> Vec<(&'static str, Insn)> {
+    let r = |number| Reg::new(number).unwrap();
+    let movsx = |form| Insn::Movsx { form, dst: r(1), src: r(2) };
+    let swap = |kind, bits| Insn::Swap { kind, bits, dst: r(4) };
+    let wide = |what| Insn::Wide { dst: r(1), what };
+    vec![
+        ("sub32 r3, -4", Insn::Alu { width: Width::W32, op: AluOp::Sub, dst: r(3), arg: Operand::Imm(-4) }),
+        ("mov r1, r2", Insn::Alu { width: Width::W64, op: AluOp::Mov, dst: r(1), arg: Operand::Reg(r(2)) }),
+        ("movsx8_32 r1, r2", movsx(MovsxForm::W32From8)),
+        ("movsx16_32 r1, r2", movsx(MovsxForm::W32From16)),
+        ("movsx8 r1, r2", movsx(MovsxForm::W64From8)),
+        ("movsx16 r1, r2", movsx(MovsxForm::W64From16)),
+        ("movsx32 r1, r2", movsx(MovsxForm::W64From32)),
+        ("neg32 r3", Insn::Neg { width: Width::W32, dst: r(3) }),
+        ("le16 r4", swap(SwapKind::Le, SwapBits::B16)),
+        ("be32 r4", swap(SwapKind::Be, SwapBits::B32)),
+        ("swap64 r4", swap(SwapKind::Bytes, SwapBits::B64)),
+        ("ja +5", Insn::Jump { off: 5 }),
+        ("ja32 -6", Insn::JumpLong { imm: -6 }),
+        ("jsgt r3, r4, -7", Insn::Branch { width: Width::W64, op: BranchOp::Sgt, dst: r(3), arg: Operand::Reg(r(4)), off: -7 }),
+        ("jeq32 r3, -2, +5", Insn::Branch { width: Width::W32, op: BranchOp::Eq, dst: r(3), arg: Operand::Imm(-2), off: 5 }),
+        ("call 8", Insn::CallHelper { id: 8 }),
+        ("call_local -9", Insn::CallLocal { imm: -9 }),
+        ("call_btf 10, 11", Insn::CallBtf { id: 10, off: 11 }),
+        ("exit", Insn::Exit),
+        ("ldxb r5, [r6+7]", Insn::Load { size: Size::B, dst: r(5), src: r(6), off: 7 }),
+        ("ldxsh r5, [r6-7]", Insn::LoadSigned { size: SmallSize::H, dst: r(5), src: r(6), off: -7 }),
+        ("stw [r7+8], -9", Insn::StoreImm { size: Size::W, dst: r(7), off: 8, imm: -9 }),
+        ("stxdw [r10-8], r1", Insn::StoreReg { size: Size::D, dst: r(10), src: r(1), off: -8 }),
+        ("cmpxchg [r1-8], r2", Insn::Atomic { width: Width::W64, op: AtomicOp::Cmpxchg, dst: r(1), src: r(2), off: -8 }),
+        ("lddw r1, 1234605616436508552", wide(WideOf::Number(0x1122_3344_5566_7788))),
+        ("lddw_map r1, 2", wide(WideOf::MapFd(2))),
+        ("lddw_map_value r1, 2, 3", wide(WideOf::MapValueFd(2, 3))),
+        ("lddw_var r1, 4, 5", wide(WideOf::VarAddr(4, 5))),
+        ("lddw_code r1, 6", wide(WideOf::CodeAddr(6))),
+        ("lddw_idx r1, 7", wide(WideOf::MapIdx(7))),
+        ("lddw_idx_value r1, 8, 9", wide(WideOf::MapValueIdx(8, 9))),
+        ("ldabsw 10", Insn::PacketAbs { size: SmallSize::W, imm: 10 }),
+        ("ldindb r1, 11", Insn::PacketInd { size: SmallSize::B, src: r(1), imm: 11 }),
+    ]
+}
+
+#[test]
+fn instructions_are_those_of_the_listing() {
+    for (line, want) in shown() {
+        let bytes = insn::read(Order::Big, line).unwrap();
+        assert_eq!(insn::encode(Order::Big, [want]).as_ref(), Ok(&bytes), "{line}");
+        assert_eq!(Program::decode(Order::Big, &bytes).unwrap().get(0), Some(want), "{line}");
+    }
 }
 
 #[test]

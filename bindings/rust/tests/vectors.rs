@@ -1,19 +1,13 @@
-//! The rows of testdata/vectors.tsv; testdata/README.md has the columns.
+//! Values that are decoded from the rows of testdata/vectors.tsv, and a sample of each call. The tests
+//! from C have each row by each call on bytes.
 
-mod listing;
 mod rows;
 
 use bpfcanon::btf::Btf;
 use bpfcanon::insn::Program;
 use bpfcanon::{btf, insn, Error, Fault, Order};
-use listing::insn_listing;
-use rows::{data, file, rows, text, ORDERS};
+use rows::{data, file, load, rows, ORDERS};
 use std::fmt::Debug;
-
-/// The names of a group and of the group that it includes.
-fn brings(group: &str) -> String {
-    group.strip_suffix("64").map_or(group.into(), |name| format!("{name}32 {group}"))
-}
 
 /// A fault: whether it is in the second of two inputs, its place, and its cause.
 fn fault_at<T: Debug, C: Copy + Debug>(
@@ -26,27 +20,43 @@ fn fault_at<T: Debug, C: Copy + Debug>(
     }
 }
 
+/// Each instruction is decoded from each byte order and encoded in each.
 #[test]
-fn instructions() {
-    let exit = [0x95, 0, 0, 0, 0, 0, 0, 0];
+fn instructions_of_vectors() {
     for row in rows("insn") {
         let (line, programs) = (&row[0], [data(&row[1]), data(&row[2])]);
         for (from, program) in ORDERS.into_iter().zip(&programs) {
             let decoded = Program::decode(from, program).unwrap();
-            assert_eq!((insn_listing(&decoded), decoded.len()), (format!("{line}\n"), 1));
             assert_eq!((decoded.offset(0), decoded.bytes(0)), (Some(0), Some(&program[..])));
-            assert_eq!(decoded.group(0).unwrap().to_string(), row[3], "{line}");
-            assert_eq!(insn::same(from, program, Order::Big, &exit), Ok(line == "exit"), "{line}");
+            assert_eq!((decoded.group(0).unwrap().to_string(), decoded.len()), (row[3].clone(), 1));
+            let insn = decoded.get(0).unwrap();
+            // The name of its operation is in the mnemonic.
+            let shown = format!("{insn:?}").to_lowercase();
+            let op = shown.split("op: ").nth(1).and_then(|it| it.split([',', ' ']).next());
+            assert!(line.replace('_', "").contains(op.unwrap_or("")), "{line} is {shown}");
             for (to, written) in ORDERS.into_iter().zip(&programs) {
-                let insns = decoded.iter().map(|(_, it)| it);
-                assert_eq!(insn::encode(to, insns).as_ref(), Ok(written), "{line}");
-                assert_eq!(insn::canon(from, to, program).as_ref(), Ok(written), "{line}");
-                assert_eq!(insn::same(from, program, to, written), Ok(true), "{line}");
+                assert_eq!(insn::encode(to, [insn]).as_ref(), Ok(written), "{line}");
             }
-            assert_eq!(insn::show(from, program), Ok(format!("{line}\n")));
-            assert_eq!(insn::read(from, line).as_ref(), Ok(program), "{line}");
-            assert_eq!(insn::groups(from, program).unwrap().to_string(), brings(&row[3]), "{line}");
         }
+    }
+}
+
+#[test]
+fn calls_on_instructions() {
+    let programs = ["little", "big"].map(|order| load(&format!("packet_filter.{order}.bin")));
+    let listing = insn::show(Order::Little, &programs[0]).unwrap();
+    for (from, program) in ORDERS.into_iter().zip(&programs) {
+        for (to, written) in ORDERS.into_iter().zip(&programs) {
+            assert_eq!(insn::canon(from, to, program).as_ref(), Ok(written));
+            assert_eq!(insn::same(from, program, to, written), Ok(true));
+        }
+        assert_eq!(insn::same(from, program, from, &[]), Ok(false));
+        assert_eq!(insn::show(from, program).as_ref(), Ok(&listing));
+        assert_eq!(insn::read(from, &listing).as_ref(), Ok(program));
+        assert_eq!(
+            insn::groups(from, program).unwrap().to_string(),
+            "base32 base64 atomic32 atomic64 divmul32"
+        );
     }
 }
 
@@ -72,23 +82,14 @@ fn faulty_instructions() {
 }
 
 #[test]
-fn listings() {
-    for row in rows("listing") {
-        let program = insn::read(Order::Little, text(&row[1])).unwrap();
-        let listing = insn::show(Order::Little, &program).unwrap();
-        assert_eq!(listing.as_bytes(), text(&row[2]), "{}", row[0]);
-    }
-}
-
-#[test]
 fn faulty_listings() {
     let read = insn::read(Order::Big, "exit\nleave\n");
     assert_eq!(fault_at(read, Fault::line), (false, 2, insn::ListingCause::Word));
 }
 
+/// The types are decoded from each file and encoded in each byte order.
 #[test]
-fn types() {
-    let first = data(&rows("btf")[0][2]);
+fn types_of_vectors() {
     for row in rows("btf") {
         let (name, canonical) = (&row[0], [data(&row[2]), data(&row[3])]);
         for file in [&data(&row[1]), &canonical[0], &canonical[1]] {
@@ -97,13 +98,24 @@ fn types() {
             for (to, written) in ORDERS.into_iter().zip(&canonical) {
                 let types = decoded.iter().map(|(_, it)| it);
                 assert_eq!(btf::encode(to, types).as_ref(), Ok(written), "{name}");
-                assert_eq!(btf::canon(to, file).as_ref(), Ok(written), "{name}");
             }
-            assert_eq!(btf::show(file).unwrap().as_bytes(), text(&row[5]), "{name}");
-            assert_eq!(btf::check(file).unwrap().to_string(), row[4], "{name}");
-            assert_eq!(btf::same(file, &canonical[0]), Ok(true), "{name}");
-            assert_eq!(btf::same(file, &first), Ok(canonical[0] == first), "{name}");
         }
+    }
+}
+
+#[test]
+fn calls_on_types() {
+    let files = ["little", "big"].map(|order| load(&format!("flow_table.{order}.btf")));
+    let canonical = ORDERS.map(|to| btf::canon(to, &files[0]).unwrap());
+    assert_ne!(canonical[0], canonical[1]);
+    for types in &files {
+        for (to, written) in ORDERS.into_iter().zip(&canonical) {
+            assert_eq!(btf::canon(to, types).as_ref(), Ok(written));
+            assert_eq!(btf::same(types, written), Ok(true));
+        }
+        assert_eq!(btf::same(types, &file(&[])), Ok(false));
+        assert_eq!(btf::show(types), btf::show(&canonical[0]));
+        assert_eq!(btf::check(types).unwrap() as usize, Btf::decode(types).unwrap().len());
     }
 }
 

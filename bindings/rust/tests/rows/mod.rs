@@ -24,30 +24,6 @@ pub fn data(field: &str) -> Vec<u8> {
     (0..digits.len()).step_by(2).map(byte).collect()
 }
 
-/// The bytes of a field of text.
-pub fn text(field: &str) -> Vec<u8> {
-    let mut found = Vec::new();
-    if field == "-" {
-        return found;
-    }
-    let mut rest = field.bytes();
-    while let Some(byte) = rest.next() {
-        let escape = if byte == b'\\' { rest.next() } else { None };
-        found.push(match escape {
-            None => byte,
-            Some(b'n') => b'\n',
-            Some(b't') => b'\t',
-            Some(b'r') => b'\r',
-            Some(b'x') => {
-                let mut digit = || char::from(rest.next().unwrap()).to_digit(16).unwrap() as u8;
-                digit() * 16 + digit()
-            }
-            Some(other) => other,
-        });
-    }
-    found
-}
-
 /// A file of testdata/.
 pub fn load(name: &str) -> Vec<u8> {
     let path = format!("{}/../../testdata/{name}", env!("CARGO_MANIFEST_DIR"));
