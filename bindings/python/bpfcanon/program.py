@@ -10,8 +10,7 @@ from typing import Iterable, Iterator, Sequence, Union, overload
 from ._library import Buffer
 from .errors import EncodeInsnError, check
 from .header import INSN, Group, InsnCause, InsnRecord, Order, Status
-from .insn_encoding import record_of
-from .insn_records import insn_of
+from .insn_records import insn_of, record_of
 from .insn_types import Insn
 from .records import decode_insns, encode_insns
 
@@ -44,7 +43,7 @@ class Program(Sequence[Insn]):
         return insn_of(self.record(index))
 
     def __iter__(self) -> Iterator[Insn]:
-        return (insn_of(InsnRecord._make(it)) for it in INSN.iter_unpack(self.records))
+        return map(insn_of, INSN.iter_unpack(self.records))
 
     def __repr__(self) -> str:
         return f"<Program of {len(self)} instructions>"
@@ -63,8 +62,7 @@ class Program(Sequence[Insn]):
 
     def with_offsets(self) -> Iterator[tuple[int, Insn]]:
         """Yield each instruction after its offset in the program, in bytes."""
-        records = (InsnRecord._make(it) for it in INSN.iter_unpack(self.records))
-        return ((it.offset, insn_of(it)) for it in records)
+        return ((it[-1], insn_of(it)) for it in INSN.iter_unpack(self.records))
 
 
 def insns(program: Buffer, *, order: Order = Order.LITTLE) -> Iterator[tuple[int, Insn]]:

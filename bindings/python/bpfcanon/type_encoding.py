@@ -7,15 +7,15 @@ hold.
 from __future__ import annotations
 
 import struct
-from typing import Any, Callable, Iterable, Optional, Sequence, TypeVar
+from typing import Any, Callable, Iterable, Optional, Sequence, TypeVar, Union
 
 from . import types as btf
 from .causes import cause_of
 from .errors import EncodeBtfError, check
-from .header import ITEM, BtfCause, Encoding, ItemKind, Kind, Linkage, Order, Status
-from .insn_encoding import value_of
+from .header import ITEM, BtfCause, Encoding, ItemKind, Kind, Linkage, Order, Status, TypeRecord
+from .insn_records import classes, value_of
 from .records import encode_types
-from .type_records import Items, member, param
+from .type_records import Items, expressions, member, param
 from .types import Entry, EnumValue, Member, Param, Type
 
 T = TypeVar("T")
@@ -30,18 +30,6 @@ NO_NAME = NAME.pack(0, 0)
 pack_type = struct.Struct("=BBBBBBH8sIIIIiI").pack
 pack_item = struct.Struct("=8sIIIIIIQ").pack
 DECODED_ITEM = struct.Struct("=II32s")
-# Where the items of a type are, and how many.
-Range = tuple[int, int]
-NO_ITEMS = (0, 0)
-
-
-def record(
-    kind: int, name: bytes = NO_NAME, size: int = 0, target: int = 0, items: Range = NO_ITEMS, flag: int = 0, linkage: int = 0,
-    integer: tuple[int, int, int] = (0, 0, 0), array: tuple[int, int] = (0, 0), component: int = 0,
-) -> bytes:  # fmt: skip
-    """Return the record of a type. Raises struct.error for a number that its field can't hold."""
-    encoding, bit_offset, bits = integer
-    return pack_type(kind, flag, encoding, linkage, bit_offset, bits, items[1], name, size, target, *array, component, items[0])
 
 
 class Names(dict[str, bytes]):
@@ -64,51 +52,46 @@ class Records:
 
     def __init__(self) -> None:
         self.types, self.items, self.names = bytearray(), bytearray(), Names()
+        self.first = 0  # the index of the first item of the type that is added
 
     def add(self, it: Type) -> None:
         """Add the record of a type. Raises KeyError, TypeError, ValueError, struct.error if it has none."""
+        self.first = len(self.items) // ITEM.size
         self.types += BY_CLASS[type(it)](self, it)
 
-    def _add(self, records: list[bytes]) -> Range:
-        """Add records of items. Raises ValueError."""
-        first = len(self.items) // ITEM.size
+    def _add(self, records: list[bytes]) -> int:
+        """Add records of items, and return how many there are. Raises ValueError."""
         if len(records) > MOST_ITEMS:
             raise ValueError("a type has at most 65,535 items")
         self.items += b"".join(records)
-        return first, len(records)
+        return len(records)
 
-    def _add_decoded(self, given: Items[Any]) -> Range:
+    def _add_decoded(self, given: Items[Any]) -> int:
         """Add records that the library has decoded: only their names are elsewhere."""
         names, file = self.names, given._names
         return self._add([names[file[at : at + size].decode()] + rest for at, size, rest in DECODED_ITEM.iter_unpack(given._records)])
 
-    def members(self, given: Sequence[Member]) -> Range:
+    def members(self, given: Sequence[Member]) -> int:
         if isinstance(given, Items) and given._make is member:
             return self._add_decoded(given)
         names, found = self.names, all_of(Member, given)
         return self._add([pack_item(names[it.name], it.target, it.bit_offset, it.width, 0, 0, MEMBER, 0) for it in found])
 
-    def values(self, given: Sequence[EnumValue], is_signed: bool) -> Range:
-        names, found, mask = self.names, all_of(EnumValue, given), 0xFFFFFFFF
-        least = -(1 << 31) if is_signed else 0
-        # The library refuses a value that isn't one of 32 bits.
-        values = [it.value & mask if 0 <= it.value - least <= mask else 1 << 32 for it in found]
-        return self._add([pack_item(names[it.name], 0, 0, 0, 0, 0, VALUE, value) for it, value in zip(found, values)])
+    def values(self, given: Sequence[EnumValue], of: Union[btf.Enum, btf.Enum64]) -> int:
+        names, found = self.names, all_of(EnumValue, given)
+        bits, kind = (64, VALUE64) if isinstance(of, btf.Enum64) else (32, VALUE)
+        least, mask = -of.signed << bits - 1, (1 << bits) - 1
+        # The library refuses a value that isn't one of 32 bits, and a record has none of more than 64.
+        values = [it.value & mask if 0 <= it.value - least <= mask else 1 << bits for it in found]
+        return self._add([pack_item(names[it.name], 0, 0, 0, 0, 0, kind, value) for it, value in zip(found, values)])
 
-    def values64(self, given: Sequence[EnumValue], is_signed: bool) -> Range:
-        names, found, mask = self.names, all_of(EnumValue, given), (1 << 64) - 1
-        least = -(1 << 63) if is_signed else 0
-        if not all(0 <= it.value - least <= mask for it in found):
-            raise ValueError("a value doesn't fit into 64 bits")
-        return self._add([pack_item(names[it.name], 0, 0, 0, 0, 0, VALUE64, it.value & mask) for it in found])
-
-    def params(self, given: Sequence[Param]) -> Range:
+    def params(self, given: Sequence[Param]) -> int:
         if isinstance(given, Items) and given._make is param:
             return self._add_decoded(given)
         names = self.names
         return self._add([pack_item(names[it.name], it.target, 0, 0, 0, 0, PARAM, 0) for it in all_of(Param, given)])
 
-    def entries(self, given: Sequence[Entry]) -> Range:
+    def entries(self, given: Sequence[Entry]) -> int:
         return self._add([pack_item(NO_NAME, it.target, 0, 0, it.offset, it.size, ENTRY, 0) for it in all_of(Entry, given)])
 
 
@@ -135,57 +118,25 @@ def component_of(index: Optional[int]) -> int:
     return -1 if index is None else index
 
 
-def int_(to: Records, it: btf.Int) -> bytes:
-    return record(Kind.INT, to.names[it.name], it.size, integer=(value_of(Encoding, it.encoding), it.bit_offset, it.bits))
+# The number of a field, by its type, and of items by their name.
+NUMBERS: dict[Any, str] = {
+    int: "it.{name}", str: "to.names[it.{name}]", bool: "flag_of(it.{name})", Optional[int]: "component_of(it.{name})",
+    Encoding: "value_of(Encoding, it.{name})", Linkage: "value_of(Linkage, it.{name})", "values": "to.values(it.values, it)",
+    "members": "to.members(it.members)", "params": "to.params(it.params)", "entries": "to.entries(it.entries)",
+}  # fmt: skip
 
 
-def composite(kind: int) -> Callable[[Records, Any], bytes]:
-    return lambda to, it: record(kind, to.names[it.name], it.size, items=to.members(it.members))
+def packing(number: int, kind: Any) -> Callable[[Records, Any], bytes]:
+    """Return what makes the record of a type of a class. It is compiled, too."""
+    record = {**dict.fromkeys(TypeRecord._fields, "0"), "kind": str(number), "name": "NO_NAME", "first": "to.first"}
+    del record["name_len"]
+    source = f"lambda to, it: pack_type({', '.join({**record, **expressions(kind, NUMBERS)}.values())})"
+    made: Callable[[Records, Any], bytes] = eval(source, {**globals(), "value_of": value_of})
+    return made
 
 
-def enum(kind: int, values: Callable[[Records, Sequence[EnumValue], bool], Range]) -> Callable[[Records, Any], bytes]:
-    def packed(to: Records, it: Any) -> bytes:
-        flag = flag_of(it.signed)
-        return record(kind, to.names[it.name], it.size, items=values(to, it.values, it.signed), flag=flag)
-
-    return packed
-
-
-def reference(kind: int) -> Callable[[Records, Any], bytes]:
-    return lambda to, it: record(kind, NO_NAME, 0, it.target)
-
-
-def linked(kind: int) -> Callable[[Records, Any], bytes]:
-    return lambda to, it: record(kind, to.names[it.name], 0, it.target, NO_ITEMS, 0, value_of(Linkage, it.linkage))
-
-
-def decl_tag(to: Records, it: btf.DeclTag) -> bytes:
-    component = component_of(it.component)
-    return record(Kind.DECL_TAG, to.names[it.name], target=it.target, flag=flag_of(it.flag), component=component)
-
-
-# By the class of a type.
-BY_CLASS: dict[type, Callable[[Records, Any], bytes]] = {
-    btf.Void: lambda to, it: record(0),
-    btf.Int: int_,
-    btf.Ptr: reference(Kind.PTR),
-    btf.Array: lambda to, it: record(Kind.ARRAY, target=it.target, array=(it.index, it.count)),
-    btf.Struct: composite(Kind.STRUCT),
-    btf.Union: composite(Kind.UNION),
-    btf.Enum: enum(Kind.ENUM, Records.values),
-    btf.Fwd: lambda to, it: record(Kind.FWD, to.names[it.name], flag=flag_of(it.is_union)),
-    btf.Typedef: lambda to, it: record(Kind.TYPEDEF, to.names[it.name], target=it.target),
-    btf.Volatile: reference(Kind.VOLATILE),
-    btf.Const: reference(Kind.CONST),
-    btf.Restrict: reference(Kind.RESTRICT),
-    btf.Func: linked(Kind.FUNC),
-    btf.FuncProto: lambda to, it: record(Kind.FUNC_PROTO, NO_NAME, 0, it.target, to.params(it.params)),
-    btf.Var: linked(Kind.VAR),
-    btf.Datasec: lambda to, it: record(Kind.DATASEC, to.names[it.name], it.size, items=to.entries(it.entries)),
-    btf.Float: lambda to, it: record(Kind.FLOAT, to.names[it.name], it.size),
-    btf.DeclTag: decl_tag,
-    btf.TypeTag: lambda to, it: record(Kind.TYPE_TAG, to.names[it.name], target=it.target, flag=flag_of(it.flag)),
-    btf.Enum64: enum(Kind.ENUM64, Records.values64),
+BY_CLASS: dict[Any, Callable[[Records, Any], bytes]] = {
+    kind: packing(number, kind) for number, kind in {0: btf.Void, **classes(btf, Kind)}.items()
 }
 
 

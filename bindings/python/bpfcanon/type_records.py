@@ -1,13 +1,18 @@
-"""Makes types and their items of their records."""
+"""Makes types and their items of their records.
+
+A kind of the header has a class. A field of the class is the field of a record with its name, or that of FIELDS.
+"""
 
 from __future__ import annotations
 
 import operator
-from typing import Callable, Iterator, Sequence, TypeVar, Union, overload
+from dataclasses import fields
+from typing import Any, Callable, Iterator, Optional, Sequence, TypeVar, Union, get_type_hints, overload
 
 from . import types as btf
 from .errors import UnknownRecordError
 from .header import ITEM, Encoding, ItemRecord, Kind, Linkage, TypeRecord
+from .insn_records import classes
 from .types import Entry, EnumValue, Item, Member, Param, Type
 
 T = TypeVar("T", bound=Item)
@@ -104,37 +109,35 @@ class File:
         return Items(make, self.names, self.items[ITEM.size * it.first : ITEM.size * (it.first + it.items)])
 
     def values(self, it: TypeRecord) -> Items[EnumValue]:
-        return self.items_of(it, signed_enum_value if it.flag else enum_value)
-
-    def values64(self, it: TypeRecord) -> Items[EnumValue]:
-        return self.items_of(it, signed_enum64_value if it.flag else enum_value)
+        return self.items_of(it, (signed_enum64_value if it.kind == Kind.ENUM64 else signed_enum_value) if it.flag else enum_value)
 
 
+FIELDS = {"signed": "flag", "is_union": "flag", "index": "index_type", "count": "elements"}
+FIELDS.update(dict.fromkeys(["members", "values", "params", "entries"], "items"))
 # The members of enums by their values: to call an enum takes longer.
-ENCODINGS = {it.value: it for it in Encoding}
-LINKAGES = {it.value: it for it in Linkage}
-# By the kind of a type.
-BY_KIND: dict[int, Callable[[File, TypeRecord], Type]] = {
-    Kind.INT: lambda file, it: btf.Int(file.name(it), it.size, ENCODINGS[it.encoding], it.bit_offset, it.bits),
-    Kind.PTR: lambda file, it: btf.Ptr(it.target),
-    Kind.ARRAY: lambda file, it: btf.Array(it.target, it.index_type, it.elements),
-    Kind.STRUCT: lambda file, it: btf.Struct(file.name(it), it.size, file.items_of(it, member)),
-    Kind.UNION: lambda file, it: btf.Union(file.name(it), it.size, file.items_of(it, member)),
-    Kind.ENUM: lambda file, it: btf.Enum(file.name(it), bool(it.flag), it.size, file.values(it)),
-    Kind.FWD: lambda file, it: btf.Fwd(file.name(it), bool(it.flag)),
-    Kind.TYPEDEF: lambda file, it: btf.Typedef(file.name(it), it.target),
-    Kind.VOLATILE: lambda file, it: btf.Volatile(it.target),
-    Kind.CONST: lambda file, it: btf.Const(it.target),
-    Kind.RESTRICT: lambda file, it: btf.Restrict(it.target),
-    Kind.FUNC: lambda file, it: btf.Func(file.name(it), LINKAGES[it.linkage], it.target),
-    Kind.FUNC_PROTO: lambda file, it: btf.FuncProto(it.target, file.items_of(it, param)),
-    Kind.VAR: lambda file, it: btf.Var(file.name(it), it.target, LINKAGES[it.linkage]),
-    Kind.DATASEC: lambda file, it: btf.Datasec(file.name(it), it.size, file.items_of(it, entry)),
-    Kind.FLOAT: lambda file, it: btf.Float(file.name(it), it.size),
-    Kind.DECL_TAG: lambda file, it: btf.DeclTag(file.name(it), bool(it.flag), it.target, None if it.component < 0 else it.component),
-    Kind.TYPE_TAG: lambda file, it: btf.TypeTag(file.name(it), bool(it.flag), it.target),
-    Kind.ENUM64: lambda file, it: btf.Enum64(file.name(it), bool(it.flag), it.size, file.values64(it)),
-}
+MEMBERS = {f"{kind.__name__}s": {it.value: it for it in kind} for kind in (Encoding, Linkage)}
+# The value of a field, by its type, and of items by their name.
+VALUES: dict[Any, str] = {
+    int: "it.{field}", str: "file.name(it)", bool: "bool(it.{field})", Optional[int]: "None if it.{field} < 0 else it.{field}",
+    Encoding: "Encodings[it.{field}]", Linkage: "Linkages[it.{field}]", "values": "file.values(it)",
+    "members": "file.items_of(it, member)", "params": "file.items_of(it, param)", "entries": "file.items_of(it, entry)",
+}  # fmt: skip
+
+
+def expressions(kind: Any, of: dict[Any, str]) -> dict[str, str]:
+    """Return the expression of each field of a class, by the field of a record that it is."""
+    hints, named = get_type_hints(kind), [(it.name, FIELDS.get(it.name, it.name)) for it in fields(kind)]
+    return {field: (of.get(name) or of[hints[name]]).format(name=name, field=field) for name, field in named}
+
+
+def making(kind: Any) -> Callable[[File, TypeRecord], Type]:
+    """Return what makes a type of its record. It is compiled, as dataclasses are: a loop over the fields takes longer."""
+    source = f"lambda file, it: kind({', '.join(expressions(kind, VALUES).values())})"
+    made: Callable[[File, TypeRecord], Type] = eval(source, {"kind": kind, "member": member, "param": param, "entry": entry, **MEMBERS})
+    return made
+
+
+BY_KIND = {number: making(kind) for number, kind in classes(btf, Kind).items()}
 # The kinds that `resolve` follows.
 FOLLOWED = frozenset({Kind.TYPEDEF, Kind.VOLATILE, Kind.CONST, Kind.RESTRICT, Kind.TYPE_TAG})
 

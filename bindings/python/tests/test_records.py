@@ -6,14 +6,14 @@ import gc
 import importlib.util
 import re
 import unittest
-from typing import Any, Callable
+from typing import Any, Callable, get_args
 from unittest import mock
 
 from bpfcanon import Btf, FaultError, Program, UnknownRecordError, _library, insn_encode, records
-from bpfcanon import header, insn_encoding, insn_records, insn_types, type_records, types
+from bpfcanon import header, insn_records, type_records, types
 from bpfcanon.types import Member, Struct
 
-from .samples import INSNS, load, unhex
+from .samples import INSNS, TOP, load, unhex
 
 STRUCTS: list[tuple[Any, list[tuple[str, str]]]] = [
     (header.INSN, records.INSN_FIELDS),
@@ -22,28 +22,17 @@ STRUCTS: list[tuple[Any, list[tuple[str, str]]]] = [
 ]
 
 
-def class_names(prefix: str, module: Any) -> dict[str, str]:
-    """The classes of a module by their names as the header has them: CALL_HELPER is CallHelper."""
-    return {prefix + re.sub(r"(?<!^)(?=[A-Z])", "_", name).upper(): name for name in vars(module)}
-
-
 class Layout(unittest.TestCase):
     def test_records_have_their_sizes(self) -> None:
         self.assertEqual([layout.size for layout, _ in STRUCTS], [32, 40, 40])
 
-    def test_each_form_has_a_class(self) -> None:
-        names = class_names("", insn_types)
-        self.assertEqual(list(insn_records.BY_FORM), list(header.Form))
-        self.assertEqual([names[it.name] for it in header.Form], [it.__name__ for it in insn_encoding.BY_CLASS])
-        self.assertEqual([names[it.name] for it in header.WideKind], [it.__name__ for it in insn_encoding.BY_WIDE])
-
-    def test_each_kind_has_a_class(self) -> None:
-        names = class_names("", types)
-        record = header.TypeRecord._make([0] * len(records.TYPE_FIELDS))
-        file = type_records.File(b"", memoryview(b""))
-        for kind in header.Kind:
-            made = type_records.type_of(file, record._replace(kind=kind))
-            self.assertEqual(type(made).__name__, names[kind.name])
+    def test_classes_have_the_fields_that_the_header_lists(self) -> None:
+        forms = {it.name: {field for part in insn_records.FORMS[it][1] for field in part.fields} for it in header.Form}
+        kinds = {it.name: set(type_records.expressions(kind, type_records.VALUES)) for it, kind in zip(header.Kind, get_args(types.Type)[1:])}
+        text = (TOP / "capi" / "bpfcanon.h").read_text()
+        for prefix, found, known in ("FORM", forms, header.InsnRecord._fields), ("BTF_KIND", kinds, header.TypeRecord._fields):
+            rows = re.findall(rf"^\tBPFCANON_{prefix}_(\w+) = \d+,? *(?:/\* (.*) \*/)?$", text, re.MULTILINE)
+            self.assertEqual({name: set(re.findall(r"\w+", about)) & set(known) for name, about in rows}, found)
 
 
 class Newer(unittest.TestCase):
