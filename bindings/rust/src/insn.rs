@@ -4,7 +4,6 @@ mod groups;
 mod instruction;
 mod operations;
 mod program;
-mod record;
 mod writer;
 
 pub use groups::Groups;

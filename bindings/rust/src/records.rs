@@ -1,5 +1,24 @@
 //! The records of `bpfcanon.h`, and the numbers in them.
 
+/// A field of a value, which is one field of a record, or several, with the numbers `N`.
+pub(crate) trait Field<N>: Sized {
+    /// The value of these numbers; none if it isn't known.
+    fn of(numbers: N) -> Option<Self>;
+    /// The numbers of the value.
+    fn numbers(self) -> N;
+}
+
+/// A number is itself.
+impl<N> Field<N> for N {
+    fn of(number: N) -> Option<N> {
+        Some(number)
+    }
+
+    fn numbers(self) -> N {
+        self
+    }
+}
+
 /// Declares an enum by its variants and their numbers in records.
 macro_rules! numbered {
     ($(#[$about:meta])* $name:ident { $($(#[$doc:meta])* $variant:ident = $number:tt,)+ }) => {
@@ -9,13 +28,16 @@ macro_rules! numbered {
             $($(#[$doc])* $variant = $number as isize,)+
         }
 
-        impl $name {
-            /// The variant with this number in a record.
-            pub(crate) fn of_number(number: u8) -> Option<$name> {
+        impl $crate::records::Field<u8> for $name {
+            fn of(number: u8) -> Option<$name> {
                 match u32::from(number) {
                     $($number => Some($name::$variant),)+
                     _ => None,
                 }
+            }
+
+            fn numbers(self) -> u8 {
+                self as u8
             }
         }
     };

@@ -2,7 +2,7 @@
 
 use super::items::Items;
 use super::{Entry, EnumValue, Member, Param};
-use crate::records::numbered;
+use crate::records::{numbered, Field};
 use crate::sys::*;
 use std::fmt;
 
@@ -168,16 +168,16 @@ impl bpfcanon_btf_type {
     /// Whether the crate has the kind, the encoding and the linkage of the type.
     pub(crate) fn is_known(&self) -> bool {
         (BPFCANON_BTF_KIND_INT..=BPFCANON_BTF_KIND_ENUM64).contains(&self.kind.into())
-            && Encoding::of_number(self.encoding).is_some()
-            && Linkage::of_number(self.linkage).is_some()
+            && Encoding::of(self.encoding).is_some()
+            && Linkage::of(self.linkage).is_some()
     }
 
     /// The type of a record with its name and its items; none if it isn't known.
     #[rustfmt::skip]
     pub(super) fn typed<'a>(&self, name: &'a str, items: Items<'_, 'a>) -> Option<Type<'a>> {
         let (size, target, flag) = (self.size, TypeId(self.target), self.flag == 1);
-        let encoding = || Encoding::of_number(self.encoding);
-        let linkage = || Linkage::of_number(self.linkage);
+        let encoding = || Encoding::of(self.encoding);
+        let linkage = || Linkage::of(self.linkage);
         Some(match u32::from(self.kind) {
             BPFCANON_BTF_KIND_INT => Type::Int { name, size, encoding: encoding()?, bit_offset: self.bit_offset, bits: self.bits },
             BPFCANON_BTF_KIND_PTR => Type::Ptr { target },

@@ -192,7 +192,8 @@ where
         records.try_reserve(1).map_err(|_| Error::OutOfMemory)?;
         records.push((*insn.borrow()).into());
     }
-    let wide = records.iter().filter(|it| it.is_wide()).count();
+    let is_wide = |it: &&sys::bpfcanon_insn| u32::from(it.form) == sys::BPFCANON_FORM_WIDE;
+    let wide = records.iter().filter(is_wide).count();
     let encoded = call::output(8 * (records.len() + wide), |out, room| {
         // SAFETY: the records, which are aligned to 8 bytes, and the buffer are valid for the
         // call, and don't overlap.
