@@ -27,70 +27,70 @@ call::causes! {
     /// each cause.
     Cause, "byte", offset, sys::bpfcanon_btf_cause_name, sys::bpfcanon_btf_cause_text;
     /// The file has fewer than 24 bytes.
-    ShortHeader = BPFCANON_BTF_CAUSE_SHORT_HEADER,
+    ShortHeader = 1,
     /// The file does not begin with the BTF magic number in either byte order.
-    Magic = BPFCANON_BTF_CAUSE_MAGIC,
+    Magic = 2,
     /// The version is not 1.
-    Version = BPFCANON_BTF_CAUSE_VERSION,
+    Version = 3,
     /// The flags are not 0.
-    Flags = BPFCANON_BTF_CAUSE_FLAGS,
+    Flags = 4,
     /// `hdr_len` is under 24, over 4,096 or over the length of the file.
-    HeaderLength = BPFCANON_BTF_CAUSE_HEADER_LENGTH,
+    HeaderLength = 5,
     /// A byte of the header after the first 24 is not 0.
-    HeaderTail = BPFCANON_BTF_CAUSE_HEADER_TAIL,
+    HeaderTail = 6,
     /// `type_len` is over 33,554,432.
-    TypeLength = BPFCANON_BTF_CAUSE_TYPE_LENGTH,
+    TypeLength = 7,
     /// `str_len` is 0 or over 16,777,216.
-    StringLength = BPFCANON_BTF_CAUSE_STRING_LENGTH,
+    StringLength = 8,
     /// The type and string sections do not follow the header one directly after the other.
-    Sections = BPFCANON_BTF_CAUSE_SECTIONS,
+    Sections = 9,
     /// `hdr_len`, `type_len` and `str_len` do not add up to the length of the file.
-    FileLength = BPFCANON_BTF_CAUSE_FILE_LENGTH,
+    FileLength = 10,
     /// The first byte of the string section is not NUL.
-    FirstString = BPFCANON_BTF_CAUSE_FIRST_STRING,
+    FirstString = 11,
     /// The last byte of the string section is not NUL.
-    LastString = BPFCANON_BTF_CAUSE_LAST_STRING,
+    LastString = 12,
     /// The type section ends inside the first three words of a record.
-    RecordCut = BPFCANON_BTF_CAUSE_RECORD_CUT,
+    RecordCut = 13,
     /// An unused bit of `info` is set.
-    InfoBits = BPFCANON_BTF_CAUSE_INFO_BITS,
+    InfoBits = 14,
     /// The kind is 0 or over 19.
-    KindNumber = BPFCANON_BTF_CAUSE_KIND_NUMBER,
+    KindNumber = 15,
     /// `kind_flag` is set on a kind that has none.
-    FlagSet = BPFCANON_BTF_CAUSE_FLAG_SET,
+    FlagSet = 16,
     /// `vlen` is not 0 on a kind without items.
-    Vlen = BPFCANON_BTF_CAUSE_VLEN,
+    Vlen = 17,
     /// The type section ends inside the data after the first three words of a record.
-    TailCut = BPFCANON_BTF_CAUSE_TAIL_CUT,
+    TailCut = 18,
     /// `name_off` is not inside the string section.
-    NameRange = BPFCANON_BTF_CAUSE_NAME_RANGE,
+    NameRange = 19,
     /// The name is not valid UTF-8.
-    NameUtf8 = BPFCANON_BTF_CAUSE_NAME_UTF8,
+    NameUtf8 = 20,
     /// A type of this kind needs a name.
-    NameMissing = BPFCANON_BTF_CAUSE_NAME_MISSING,
+    NameMissing = 21,
     /// A type of this kind has no name.
-    NameUnwanted = BPFCANON_BTF_CAUSE_NAME_UNWANTED,
+    NameUnwanted = 22,
     /// Never reported: the number is kept.
-    TextsTooLong = BPFCANON_BTF_CAUSE_TEXTS_TOO_LONG,
+    TextsTooLong = 23,
     /// The third word of an ARRAY or FWD is not 0.
-    NotZero = BPFCANON_BTF_CAUSE_NOT_ZERO,
+    NotZero = 24,
     /// No type of this kind has this size.
-    Size = BPFCANON_BTF_CAUSE_SIZE,
+    Size = 25,
     /// The type ID is over the number of types.
-    Reference = BPFCANON_BTF_CAUSE_REFERENCE,
+    Reference = 26,
     /// The type that is referred to has the wrong kind.
-    TargetKind = BPFCANON_BTF_CAUSE_TARGET_KIND,
+    TargetKind = 27,
     /// The encoding, offset and bits of the INT are not valid.
-    IntWord = BPFCANON_BTF_CAUSE_INT_WORD,
+    IntWord = 28,
     /// A record with bit-fields has a member whose INT has an offset, or a width other than 8, 16,
     /// 32, 64 or 128 bits.
-    MemberInt = BPFCANON_BTF_CAUSE_MEMBER_INT,
+    MemberInt = 29,
     /// The member ends after the end of its struct or union.
-    MemberPlace = BPFCANON_BTF_CAUSE_MEMBER_PLACE,
+    MemberPlace = 30,
     /// The linkage is over 2.
-    Linkage = BPFCANON_BTF_CAUSE_LINKAGE,
+    Linkage = 31,
     /// `component_idx` is neither -1 nor the index of a member or parameter of the tagged type.
-    Component = BPFCANON_BTF_CAUSE_COMPONENT,
+    Component = 32,
 }
 
 /// Returns the canonical form of BTF in the byte order `to`.

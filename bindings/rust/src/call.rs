@@ -81,8 +81,8 @@ pub(crate) fn comparison<C: CauseNumber>(answer: &sys::bpfcanon_answer) -> Resul
 /// causes of another kind, whose numbers are the smaller ones.
 macro_rules! causes {
     ($(#[$about:meta])* $kind:ident, $unit:literal, $place:ident, $name:path, $text:path;
-     $($(#[$doc:meta])* $variant:ident = $number:ident,)+
-     $(; $(#[$other_doc:meta])* $other:ident($other_kind:path) below $first:ident)?) => {
+     $($(#[$doc:meta])* $variant:ident = $number:literal,)+
+     $(; $(#[$other_doc:meta])* $other:ident($other_kind:path) below $first:literal)?) => {
         $(#[$about])*
         #[derive(Clone, Copy, Debug, PartialEq, Eq, Hash)]
         #[non_exhaustive]
@@ -100,7 +100,7 @@ macro_rules! causes {
             /// Returns the number of the cause in `bpfcanon.h`.
             pub fn number(self) -> u32 {
                 match self {
-                    $($kind::$variant => $crate::sys::$number,)+
+                    $($kind::$variant => $number,)+
                     $($kind::$other(cause) => cause.number(),)?
                     $kind::Other(number) => number,
                 }
@@ -130,8 +130,8 @@ macro_rules! causes {
 
             fn of_number(number: u32) -> $kind {
                 match number {
-                    $($crate::sys::$number => $kind::$variant,)+
-                    $(_ if number < $crate::sys::$first => $kind::$other(<$other_kind>::of_number(number)),)?
+                    $($number => $kind::$variant,)+
+                    $(_ if number < $first => $kind::$other(<$other_kind>::of_number(number)),)?
                     _ => $kind::Other(number),
                 }
             }

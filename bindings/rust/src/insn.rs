@@ -28,35 +28,35 @@ call::causes! {
     /// every field up to and including it. `docs/FAULTS.md` says what to do about each cause.
     Cause, "byte", offset, sys::bpfcanon_insn_cause_name, sys::bpfcanon_insn_cause_text;
     /// The input ends inside an instruction.
-    Truncated = BPFCANON_INSN_CAUSE_TRUNCATED,
+    Truncated = 1,
     /// No instruction has this opcode.
-    Opcode = BPFCANON_INSN_CAUSE_OPCODE,
+    Opcode = 2,
     /// No instruction with this opcode has this destination register.
-    Dst = BPFCANON_INSN_CAUSE_DST,
+    Dst = 3,
     /// No instruction with this opcode has this source register.
-    Src = BPFCANON_INSN_CAUSE_SRC,
+    Src = 4,
     /// No instruction with this opcode and these registers has this offset.
-    Offset = BPFCANON_INSN_CAUSE_OFFSET,
+    Offset = 5,
     /// No instruction with this opcode, these registers and this offset has this immediate.
-    Imm = BPFCANON_INSN_CAUSE_IMM,
+    Imm = 6,
     /// The second slot of a wide load has an opcode, a register or an offset that is not zero.
-    Reserved = BPFCANON_INSN_CAUSE_RESERVED,
+    Reserved = 7,
     /// The immediate of the second slot is not zero, and this kind of wide load has one number
     /// only.
-    NextImm = BPFCANON_INSN_CAUSE_NEXT_IMM,
+    NextImm = 8,
 }
 
 call::causes! {
     /// Why a listing is refused.
     ListingCause, "line", line, sys::bpfcanon_line_cause_name, sys::bpfcanon_line_cause_text;
     /// A character that is neither blank nor part of a token.
-    Char = BPFCANON_LINE_CAUSE_CHAR,
+    Char = 1,
     /// No instruction has this mnemonic.
-    Word = BPFCANON_LINE_CAUSE_WORD,
+    Word = 2,
     /// The operands are not those of the mnemonic.
-    Shape = BPFCANON_LINE_CAUSE_SHAPE,
+    Shape = 3,
     /// A number is out of the range of its field.
-    Range = BPFCANON_LINE_CAUSE_RANGE,
+    Range = 4,
 }
 
 /// Returns the instructions of a program in the byte order `order`, written in the order `to`.

@@ -39,126 +39,126 @@ call::causes! {
     /// Why an object file is refused. `docs/OBJECTS.md` has the rule of each cause.
     Cause, "byte", offset, sys::bpfcanon_object_cause_name, sys::bpfcanon_object_cause_text;
     /// The file is longer than 64 MiB.
-    FileTooLarge = BPFCANON_OBJECT_CAUSE_FILE_TOO_LARGE,
+    FileTooLarge = 101,
     /// The file is shorter than an ELF header.
-    FileCut = BPFCANON_OBJECT_CAUSE_FILE_CUT,
+    FileCut = 102,
     /// The file doesn't begin with the magic number of ELF.
-    Magic = BPFCANON_OBJECT_CAUSE_MAGIC,
+    Magic = 103,
     /// The file isn't a 64-bit ELF file.
-    Class = BPFCANON_OBJECT_CAUSE_CLASS,
+    Class = 104,
     /// The file states no byte order.
-    ByteOrder = BPFCANON_OBJECT_CAUSE_BYTE_ORDER,
+    ByteOrder = 105,
     /// `EI_VERSION` isn't 1.
-    IdentVersion = BPFCANON_OBJECT_CAUSE_IDENT_VERSION,
+    IdentVersion = 106,
     /// The file isn't relocatable.
-    FileType = BPFCANON_OBJECT_CAUSE_FILE_TYPE,
+    FileType = 107,
     /// The file isn't for BPF.
-    Machine = BPFCANON_OBJECT_CAUSE_MACHINE,
+    Machine = 108,
     /// `e_version` isn't 1.
-    FileVersion = BPFCANON_OBJECT_CAUSE_FILE_VERSION,
+    FileVersion = 109,
     /// `e_ehsize` isn't 64.
-    HeaderSize = BPFCANON_OBJECT_CAUSE_HEADER_SIZE,
+    HeaderSize = 110,
     /// There are program headers.
-    Segments = BPFCANON_OBJECT_CAUSE_SEGMENTS,
+    Segments = 111,
     /// `e_shentsize` isn't 64.
-    SectionHeaderSize = BPFCANON_OBJECT_CAUSE_SECTION_HEADER_SIZE,
+    SectionHeaderSize = 112,
     /// The number of sections is 0, or 0xff00 or more.
-    SectionCount = BPFCANON_OBJECT_CAUSE_SECTION_COUNT,
+    SectionCount = 113,
     /// The section header table isn't inside the file.
-    SectionTable = BPFCANON_OBJECT_CAUSE_SECTION_TABLE,
+    SectionTable = 114,
     /// `e_shstrndx` isn't the index of a section.
-    NamesIndex = BPFCANON_OBJECT_CAUSE_NAMES_INDEX,
+    NamesIndex = 115,
     /// The first section header isn't all zeros.
-    FirstSection = BPFCANON_OBJECT_CAUSE_FIRST_SECTION,
+    FirstSection = 116,
     /// The names of sections aren't in a string table.
-    NamesTable = BPFCANON_OBJECT_CAUSE_NAMES_TABLE,
+    NamesTable = 117,
     /// The section extends past the end of the file.
-    SectionCut = BPFCANON_OBJECT_CAUSE_SECTION_CUT,
+    SectionCut = 118,
     /// The section's name is outside the names, or longer than 1,024 bytes.
-    SectionName = BPFCANON_OBJECT_CAUSE_SECTION_NAME,
+    SectionName = 119,
     /// A section of this type, name and flags can't be kept or dropped.
-    SectionKind = BPFCANON_OBJECT_CAUSE_SECTION_KIND,
+    SectionKind = 120,
     /// There is a second .symtab, `.BTF` or `.BTF.ext`.
-    SectionTwice = BPFCANON_OBJECT_CAUSE_SECTION_TWICE,
+    SectionTwice = 121,
     /// The table of relocations isn't named after its section, or that isn't code or data.
-    RelocationTarget = BPFCANON_OBJECT_CAUSE_RELOCATION_TARGET,
+    RelocationTarget = 122,
     /// There is no symbol table.
-    NoSymbols = BPFCANON_OBJECT_CAUSE_NO_SYMBOLS,
+    NoSymbols = 123,
     /// The size of the symbol table is 0 or not a multiple of 24.
-    SymbolTableSize = BPFCANON_OBJECT_CAUSE_SYMBOL_TABLE_SIZE,
+    SymbolTableSize = 124,
     /// `sh_entsize` of the symbol table isn't 24.
-    SymbolEntrySize = BPFCANON_OBJECT_CAUSE_SYMBOL_ENTRY_SIZE,
+    SymbolEntrySize = 125,
     /// The names of symbols aren't in a string table.
-    SymbolNames = BPFCANON_OBJECT_CAUSE_SYMBOL_NAMES,
+    SymbolNames = 126,
     /// The first symbol isn't all zeros.
-    FirstSymbol = BPFCANON_OBJECT_CAUSE_FIRST_SYMBOL,
+    FirstSymbol = 127,
     /// The symbol's name is outside the names of symbols.
-    SymbolName = BPFCANON_OBJECT_CAUSE_SYMBOL_NAME,
+    SymbolName = 128,
     /// The symbol's section doesn't exist, or isn't code or data and the symbol isn't local.
-    SymbolSection = BPFCANON_OBJECT_CAUSE_SYMBOL_SECTION,
+    SymbolSection = 129,
     /// The symbol extends past the end of its section.
-    SymbolPlace = BPFCANON_OBJECT_CAUSE_SYMBOL_PLACE,
+    SymbolPlace = 130,
     /// The size of the table of relocations isn't a multiple of 16.
-    RelocationTableSize = BPFCANON_OBJECT_CAUSE_RELOCATION_TABLE_SIZE,
+    RelocationTableSize = 131,
     /// `sh_entsize` of the table of relocations isn't 16.
-    RelocationEntrySize = BPFCANON_OBJECT_CAUSE_RELOCATION_ENTRY_SIZE,
+    RelocationEntrySize = 132,
     /// `sh_link` of the table of relocations isn't the symbol table.
-    RelocationSymbols = BPFCANON_OBJECT_CAUSE_RELOCATION_SYMBOLS,
+    RelocationSymbols = 133,
     /// The relocation's symbol isn't in the symbol table, is a source file or a label, or is in a
     /// section that isn't code or data.
-    RelocationSymbol = BPFCANON_OBJECT_CAUSE_RELOCATION_SYMBOL,
+    RelocationSymbol = 134,
     /// `.BTF` has more than 15,728,640 bytes.
-    TypesTooLarge = BPFCANON_OBJECT_CAUSE_TYPES_TOO_LARGE,
+    TypesTooLarge = 135,
     /// The byte order of `.BTF` isn't that of the file.
-    TypesOrder = BPFCANON_OBJECT_CAUSE_TYPES_ORDER,
+    TypesOrder = 136,
     /// `type_off` of `.BTF` isn't 0.
-    TypesLayout = BPFCANON_OBJECT_CAUSE_TYPES_LAYOUT,
+    TypesLayout = 137,
     /// A `name_off` of `.BTF` that isn't 0 leads to an empty string, or to a name that is too long.
-    TypesName = BPFCANON_OBJECT_CAUSE_TYPES_NAME,
+    TypesName = 138,
     /// A DATASEC has a reserved name.
-    TypesSection = BPFCANON_OBJECT_CAUSE_TYPES_SECTION,
+    TypesSection = 139,
     /// The `kind_flag` of a struct or union without bit-fields isn't 0.
-    TypesFlag = BPFCANON_OBJECT_CAUSE_TYPES_FLAG,
+    TypesFlag = 140,
     /// There is a `.BTF.ext`, and no `.BTF`.
-    ExtensionWithoutTypes = BPFCANON_OBJECT_CAUSE_EXTENSION_WITHOUT_TYPES,
+    ExtensionWithoutTypes = 141,
     /// `.BTF.ext` has fewer than 32 bytes.
-    ExtensionCut = BPFCANON_OBJECT_CAUSE_EXTENSION_CUT,
+    ExtensionCut = 142,
     /// `.BTF.ext` doesn't begin with its magic number in the byte order of the file.
-    ExtensionMagic = BPFCANON_OBJECT_CAUSE_EXTENSION_MAGIC,
+    ExtensionMagic = 143,
     /// The version of `.BTF.ext` isn't 1.
-    ExtensionVersion = BPFCANON_OBJECT_CAUSE_EXTENSION_VERSION,
+    ExtensionVersion = 144,
     /// The flags of `.BTF.ext` aren't 0.
-    ExtensionFlags = BPFCANON_OBJECT_CAUSE_EXTENSION_FLAGS,
+    ExtensionFlags = 145,
     /// `hdr_len` of `.BTF.ext` is under 32, or not less than the section.
-    ExtensionHeaderSize = BPFCANON_OBJECT_CAUSE_EXTENSION_HEADER_SIZE,
+    ExtensionHeaderSize = 146,
     /// A part of `.BTF.ext` isn't inside the section, or not aligned to 4 bytes.
-    ExtensionPart = BPFCANON_OBJECT_CAUSE_EXTENSION_PART,
+    ExtensionPart = 147,
     /// The record size of a part of `.BTF.ext` isn't 8 (functions) or 16 (lines, CO-RE
     /// relocations).
-    ExtensionRecordSize = BPFCANON_OBJECT_CAUSE_EXTENSION_RECORD_SIZE,
+    ExtensionRecordSize = 148,
     /// A group of records extends past the end of its part, or is empty.
-    ExtensionGroup = BPFCANON_OBJECT_CAUSE_EXTENSION_GROUP,
+    ExtensionGroup = 149,
     /// A string of `.BTF.ext` isn't inside the strings of `.BTF`, or is too long for the name of a
     /// section.
-    ExtensionString = BPFCANON_OBJECT_CAUSE_EXTENSION_STRING,
+    ExtensionString = 150,
     /// Functions and source lines of `.BTF.ext` don't match.
-    ExtensionLines = BPFCANON_OBJECT_CAUSE_EXTENSION_LINES,
+    ExtensionLines = 151,
     /// The canonical file has more than 64 MiB, or more than four times the file and 64 KiB, or its
     /// `.BTF` more than 15 MiB.
-    ResultTooLarge = BPFCANON_OBJECT_CAUSE_RESULT_TOO_LARGE,
+    ResultTooLarge = 152,
     /// The sections that are kept are together longer than the file.
-    SectionsTooLarge = BPFCANON_OBJECT_CAUSE_SECTIONS_TOO_LARGE,
+    SectionsTooLarge = 153,
     /// The symbol is dropped, but has a visibility, a value or a name that a loader may read.
-    SymbolDropped = BPFCANON_OBJECT_CAUSE_SYMBOL_DROPPED,
+    SymbolDropped = 154,
     /// A second group of functions has the same section.
-    ExtensionGroupTwice = BPFCANON_OBJECT_CAUSE_EXTENSION_GROUP_TWICE,
+    ExtensionGroupTwice = 155,
     /// There are source lines of a function that `.BTF.ext` doesn't have.
-    FunctionLines = BPFCANON_OBJECT_CAUSE_FUNCTION_LINES,
+    FunctionLines = 156,
     /// A VAR has the name of a FUNC, or a VAR, FWD or `TYPE_TAG` has the name of a section.
-    TypesNameTaken = BPFCANON_OBJECT_CAUSE_TYPES_NAME_TAKEN,
+    TypesNameTaken = 157,
     ;
     /// `.BTF` has this fault by itself.
-    Types(btf::Cause) below BPFCANON_OBJECT_CAUSE_FILE_TOO_LARGE
+    Types(btf::Cause) below 101
 }
 
 /// Returns the canonical file of an object file. It may be longer than that.
