@@ -1,13 +1,11 @@
 package bpfcanon
 
-import "bpfcanon/internal/capi"
-
 // An Insn is an instruction (RFC 9669; section numbers are those of this document): one of the
 // structs ALU to PacketInd, and never a pointer to one. Each has one encoding in each byte order. A
 // slot has 8 bytes; in the formulas, Off is in bytes. Instructions can be compared with ==.
 type Insn interface {
 	// record returns the record that says the instruction, without its length, group and offset.
-	record() capi.Insn
+	record() record
 }
 
 // An ALU is an arithmetic operation on Dst and Arg (section 4.1).

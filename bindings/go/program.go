@@ -34,7 +34,7 @@ func (p *Program) Len() int {
 
 // At returns instruction i, counted from 0. It panics if i isn't less than Len.
 func (p *Program) At(i int) Insn {
-	return insnOf(&p.records[i])
+	return insnOf[p.records[i].Form](&p.records[i])
 }
 
 // Form returns the form of instruction i. It panics if i isn't less than Len.

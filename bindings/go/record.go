@@ -12,13 +12,23 @@ func recordOf(insn Insn) capi.Insn {
 	switch insn.(type) {
 	case ALU, Movsx, Neg, Swap, Jump, JumpLong, Branch, CallHelper, CallLocal, CallBTF, Exit, Load, LoadSigned,
 		StoreImm, StoreReg, Atomic, Wide, PacketAbs, PacketInd:
-		return insn.record()
+		return capi.Insn(insn.record())
 	}
 	return capi.Insn{}
 }
 
-// setOperand sets the fields of a record that say a second operand.
-func setOperand(r *capi.Insn, arg Operand) {
+// A record is the record of an instruction. Its methods return it with a field, or with those of an operand.
+type record capi.Insn
+
+func form(f Form) record                { return record{Form: uint8(f)} }
+func (r record) width(w Width) record   { r.Bits = uint8(w); return r }
+func (r record) size(s Size) record     { r.Bits = uint8(s); return r }
+func (r record) dst(reg Reg) record     { r.Dst = uint8(reg); return r }
+func (r record) src(reg Reg) record     { r.Src = uint8(reg); return r }
+func (r record) off(off int16) record   { r.Off = off; return r }
+func (r record) imm(imm int32) record   { r.Imm = imm; return r }
+func (r record) op(number uint8) record { r.Op = number; return r }
+func (r record) arg(arg Operand) record {
 	switch arg := arg.(type) {
 	case Reg:
 		r.ByReg, r.Src = 1, uint8(arg)
@@ -27,95 +37,53 @@ func setOperand(r *capi.Insn, arg Operand) {
 	default:
 		r.ByReg = none
 	}
-}
-
-func (i ALU) record() capi.Insn {
-	r := capi.Insn{Form: uint8(FormALU), Op: uint8(i.Op), Bits: uint8(i.Width), Dst: uint8(i.Dst)}
-	setOperand(&r, i.Arg)
 	return r
 }
 
-func (i Movsx) record() capi.Insn {
-	widths := i.Form.widths()
-	return capi.Insn{Form: uint8(FormMovsx), Bits: widths.bits, FromBits: widths.from, Dst: uint8(i.Dst), Src: uint8(i.Src)}
+func (i ALU) record() record {
+	return form(FormALU).width(i.Width).op(uint8(i.Op)).dst(i.Dst).arg(i.Arg)
 }
-
-func (i Neg) record() capi.Insn {
-	return capi.Insn{Form: uint8(FormNeg), Bits: uint8(i.Width), Dst: uint8(i.Dst)}
-}
-
-func (i Swap) record() capi.Insn {
-	return capi.Insn{Form: uint8(FormSwap), Op: uint8(i.Kind), Bits: uint8(i.Bits), Dst: uint8(i.Dst)}
-}
-
-func (i Jump) record() capi.Insn {
-	return capi.Insn{Form: uint8(FormJump), Off: i.Off}
-}
-
-func (i JumpLong) record() capi.Insn {
-	return capi.Insn{Form: uint8(FormJumpLong), Imm: i.Imm}
-}
-
-func (i Branch) record() capi.Insn {
-	r := capi.Insn{Form: uint8(FormBranch), Op: uint8(i.Op), Bits: uint8(i.Width), Dst: uint8(i.Dst), Off: i.Off}
-	setOperand(&r, i.Arg)
+func (i Movsx) record() record {
+	r, widths := form(FormMovsx).dst(i.Dst).src(i.Src), i.Form.widths()
+	r.Bits, r.FromBits = widths.bits, widths.from
 	return r
 }
-
-func (i CallHelper) record() capi.Insn {
-	return capi.Insn{Form: uint8(FormCallHelper), Imm: i.ID}
+func (i Neg) record() record { return form(FormNeg).width(i.Width).dst(i.Dst) }
+func (i Swap) record() record {
+	return form(FormSwap).op(uint8(i.Kind)).width(Width(i.Bits)).dst(i.Dst)
 }
-
-func (i CallLocal) record() capi.Insn {
-	return capi.Insn{Form: uint8(FormCallLocal), Imm: i.Imm}
+func (i Jump) record() record     { return form(FormJump).off(i.Off) }
+func (i JumpLong) record() record { return form(FormJumpLong).imm(i.Imm) }
+func (i Branch) record() record {
+	return form(FormBranch).width(i.Width).op(uint8(i.Op)).dst(i.Dst).arg(i.Arg).off(i.Off)
 }
-
-func (i CallBTF) record() capi.Insn {
-	return capi.Insn{Form: uint8(FormCallBTF), Imm: i.ID, Off: i.Off}
+func (i CallHelper) record() record { return form(FormCallHelper).imm(i.ID) }
+func (i CallLocal) record() record  { return form(FormCallLocal).imm(i.Imm) }
+func (i CallBTF) record() record    { return form(FormCallBTF).imm(i.ID).off(i.Off) }
+func (i Exit) record() record       { return form(FormExit) }
+func (i Load) record() record       { return form(FormLoad).size(i.Size).dst(i.Dst).src(i.Src).off(i.Off) }
+func (i LoadSigned) record() record {
+	return form(FormLoadSigned).size(i.Size).dst(i.Dst).src(i.Src).off(i.Off)
 }
-
-func (i Exit) record() capi.Insn {
-	return capi.Insn{Form: uint8(FormExit)}
+func (i StoreImm) record() record {
+	return form(FormStoreImm).size(i.Size).dst(i.Dst).off(i.Off).imm(i.Imm)
 }
-
-func (i Load) record() capi.Insn {
-	return capi.Insn{Form: uint8(FormLoad), Bits: uint8(i.Size), Dst: uint8(i.Dst), Src: uint8(i.Src), Off: i.Off}
+func (i StoreReg) record() record {
+	return form(FormStoreReg).size(i.Size).dst(i.Dst).src(i.Src).off(i.Off)
 }
-
-func (i LoadSigned) record() capi.Insn {
-	return capi.Insn{Form: uint8(FormLoadSigned), Bits: uint8(i.Size), Dst: uint8(i.Dst), Src: uint8(i.Src), Off: i.Off}
+func (i Atomic) record() record {
+	return form(FormAtomic).width(i.Width).op(uint8(i.Op)).dst(i.Dst).src(i.Src).off(i.Off)
 }
-
-func (i StoreImm) record() capi.Insn {
-	return capi.Insn{Form: uint8(FormStoreImm), Bits: uint8(i.Size), Dst: uint8(i.Dst), Off: i.Off, Imm: i.Imm}
-}
-
-func (i StoreReg) record() capi.Insn {
-	return capi.Insn{Form: uint8(FormStoreReg), Bits: uint8(i.Size), Dst: uint8(i.Dst), Src: uint8(i.Src), Off: i.Off}
-}
-
-func (i Atomic) record() capi.Insn {
-	return capi.Insn{
-		Form: uint8(FormAtomic), Op: uint8(i.Op), Bits: uint8(i.Width), Dst: uint8(i.Dst), Src: uint8(i.Src), Off: i.Off,
-	}
-}
-
-func (i Wide) record() capi.Insn {
-	r := capi.Insn{Form: uint8(FormWide), Op: none, Bits: 64, Dst: uint8(i.Dst)}
+func (i Wide) record() record {
+	r := form(FormWide).op(none).width(W64).dst(i.Dst)
 	switch i.What.(type) {
 	case Number, MapFD, MapValueFD, VarAddr, CodeAddr, MapIdx, MapValueIdx:
 		r.Op, r.Imm, r.NextImm = i.What.immediates()
 	}
 	return r
 }
-
-func (i PacketAbs) record() capi.Insn {
-	return capi.Insn{Form: uint8(FormPacketAbs), Bits: uint8(i.Size), Imm: i.Imm}
-}
-
-func (i PacketInd) record() capi.Insn {
-	return capi.Insn{Form: uint8(FormPacketInd), Bits: uint8(i.Size), Src: uint8(i.Src), Imm: i.Imm}
-}
+func (i PacketAbs) record() record { return form(FormPacketAbs).size(i.Size).imm(i.Imm) }
+func (i PacketInd) record() record { return form(FormPacketInd).size(i.Size).src(i.Src).imm(i.Imm) }
 
 // operandOf returns the second operand of a record.
 func operandOf(r *capi.Insn) Operand {
@@ -125,63 +93,39 @@ func operandOf(r *capi.Insn) Operand {
 	return Imm(r.Imm)
 }
 
+// The instruction that a decoded record of each form says.
+var insnOf = [...]func(r *capi.Insn) Insn{
+	FormALU:      func(r *capi.Insn) Insn { return ALU{Width(r.Bits), ALUOp(r.Op), Reg(r.Dst), operandOf(r)} },
+	FormMovsx:    func(r *capi.Insn) Insn { return Movsx{movsxForm(r.Bits, r.FromBits), Reg(r.Dst), Reg(r.Src)} },
+	FormNeg:      func(r *capi.Insn) Insn { return Neg{Width(r.Bits), Reg(r.Dst)} },
+	FormSwap:     func(r *capi.Insn) Insn { return Swap{SwapKind(r.Op), SwapBits(r.Bits), Reg(r.Dst)} },
+	FormJump:     func(r *capi.Insn) Insn { return Jump{r.Off} },
+	FormJumpLong: func(r *capi.Insn) Insn { return JumpLong{r.Imm} },
+	FormBranch: func(r *capi.Insn) Insn {
+		return Branch{Width(r.Bits), BranchOp(r.Op), Reg(r.Dst), operandOf(r), r.Off}
+	},
+	FormCallHelper: func(r *capi.Insn) Insn { return CallHelper{r.Imm} },
+	FormCallLocal:  func(r *capi.Insn) Insn { return CallLocal{r.Imm} },
+	FormCallBTF:    func(r *capi.Insn) Insn { return CallBTF{r.Imm, r.Off} },
+	FormExit:       func(r *capi.Insn) Insn { return Exit{} },
+	FormLoad:       func(r *capi.Insn) Insn { return Load{Size(r.Bits), Reg(r.Dst), Reg(r.Src), r.Off} },
+	FormLoadSigned: func(r *capi.Insn) Insn { return LoadSigned{Size(r.Bits), Reg(r.Dst), Reg(r.Src), r.Off} },
+	FormStoreImm:   func(r *capi.Insn) Insn { return StoreImm{Size(r.Bits), Reg(r.Dst), r.Off, r.Imm} },
+	FormStoreReg:   func(r *capi.Insn) Insn { return StoreReg{Size(r.Bits), Reg(r.Dst), Reg(r.Src), r.Off} },
+	FormAtomic: func(r *capi.Insn) Insn {
+		return Atomic{Width(r.Bits), AtomicOp(r.Op), Reg(r.Dst), Reg(r.Src), r.Off}
+	},
+	FormWide:      func(r *capi.Insn) Insn { return Wide{Reg(r.Dst), wideOf(r)} },
+	FormPacketAbs: func(r *capi.Insn) Insn { return PacketAbs{Size(r.Bits), r.Imm} },
+	FormPacketInd: func(r *capi.Insn) Insn { return PacketInd{Size(r.Bits), Reg(r.Src), r.Imm} },
+}
+
 // checkForms returns an error for the first record of a form that this package doesn't know.
 func checkForms(records []capi.Insn) error {
 	for i := range records {
-		if form := Form(records[i].Form); form < FormALU || int(form) > len(formNames) {
+		if form := int(records[i].Form); form >= len(insnOf) || insnOf[form] == nil {
 			return &UnknownRecordError{i}
 		}
 	}
 	return nil
-}
-
-// insnOf returns the instruction that a decoded record says. Its form is a known one.
-func insnOf(r *capi.Insn) Insn {
-	width, size, dst, src := Width(r.Bits), Size(r.Bits), Reg(r.Dst), Reg(r.Src)
-	switch Form(r.Form) {
-	case FormALU:
-		return ALU{width, ALUOp(r.Op), dst, operandOf(r)}
-	case FormMovsx:
-		return Movsx{movsxForm(r.Bits, r.FromBits), dst, src}
-	case FormNeg:
-		return Neg{width, dst}
-	case FormSwap:
-		return Swap{SwapKind(r.Op), SwapBits(r.Bits), dst}
-	case FormBranch:
-		return Branch{width, BranchOp(r.Op), dst, operandOf(r), r.Off}
-	case FormLoad:
-		return Load{size, dst, src, r.Off}
-	case FormLoadSigned:
-		return LoadSigned{size, dst, src, r.Off}
-	case FormStoreImm:
-		return StoreImm{size, dst, r.Off, r.Imm}
-	case FormStoreReg:
-		return StoreReg{size, dst, src, r.Off}
-	case FormAtomic:
-		return Atomic{width, AtomicOp(r.Op), dst, src, r.Off}
-	case FormWide:
-		return Wide{dst, wideOf(r)}
-	case FormPacketAbs:
-		return PacketAbs{size, r.Imm}
-	case FormPacketInd:
-		return PacketInd{size, src, r.Imm}
-	}
-	return flowOf(r)
-}
-
-// flowOf returns the jump, call or return without registers that a decoded record says.
-func flowOf(r *capi.Insn) Insn {
-	switch Form(r.Form) {
-	case FormJump:
-		return Jump{r.Off}
-	case FormJumpLong:
-		return JumpLong{r.Imm}
-	case FormCallHelper:
-		return CallHelper{r.Imm}
-	case FormCallLocal:
-		return CallLocal{r.Imm}
-	case FormCallBTF:
-		return CallBTF{r.Imm, r.Off}
-	}
-	return Exit{}
 }
