@@ -1,6 +1,6 @@
 //! `canon`: the canonical file of a file.
 
-ghost use Rattle.std.specs.Prelude.{IfOk};
+ghost use Rattle.std.specs.Prelude.{◌≡◌, IfErr, IfOk};
 ghost use Rattle.bpfcanon_object.specs.Answers.{IsCanonAnswer};
 
 use crate::answer::{Answer, Status, refused_answer};
@@ -18,7 +18,8 @@ pub fn canon_answer<A: Allocator + Copy>(
     name: &str,
     bytes: &[u8],
 ) -> Result<Result<Vec<u8, A>, Answer<A>>, Stop>
-    ensures { IfOk result (IsCanonAnswer name.now bytes.now) }
+    ensures answer { IfOk result (IsCanonAnswer name.now bytes.now) }
+    ensures stop { IfErr result (λ stop. stop ≡ Stop.Memory) }
 {
     match canon_object(alloc, bytes) {
         Ok(canonical) => Ok(Ok(canonical)),

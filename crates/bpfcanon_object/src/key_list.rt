@@ -1,7 +1,7 @@
 //! `key --check`: the files of a list of keys, as `sha256sum -c` compares them.
 
 ghost use Rattle.std.specs.Prelude.{◌≡◌, ◌≢◌, ◌++◌, [], ◌∷◌, if◌then◌else◌, ℕ, List, Bool, not};
-ghost use Rattle.std.specs.Prelude.{IfOk, IfSome, IsSome, MatchOption, codes, length, slice_index};
+ghost use Rattle.std.specs.Prelude.{IfErr, IfOk, IfSome, IsSome, MatchOption, codes, length, slice_index};
 ghost use Rattle.std.specs.{Prelude.string_bytes, Str.IsUtf8, Str.bytes_eq};
 ghost use Rattle.hex.specs.Hex.{IsBytes, encode_lower};
 ghost use Rattle.bpfcanon_object.specs.Answers.{IsComparedRow, IsRefused, IsRowAnswer};
@@ -141,7 +141,8 @@ pub fn row_answer<A: Allocator + Copy>(
     wanted: Key,
     bytes: &[u8],
 ) -> Result<Answer<A>, Stop>
-    ensures { IfOk result (IsRowAnswer name.now wanted bytes.now) }
+    ensures answer { IfOk result (IsRowAnswer name.now wanted bytes.now) }
+    ensures stop { IfErr result (λ stop. stop ≡ Stop.Memory) }
 {
     match object_key(alloc, bytes) {
         Ok(key) => Ok(compared_row(alloc, name, key == wanted)?),

@@ -1,6 +1,6 @@
 //! `same`: whether two files hold the same.
 
-ghost use Rattle.std.specs.Prelude.{◌≡◌, IfOk};
+ghost use Rattle.std.specs.Prelude.{◌≡◌, IfErr, IfOk};
 ghost use Rattle.bpfcanon_object.specs.Answers.{IsComparison, IsSameAnswer};
 
 use crate::answer::{Answer, Status, refused_answer};
@@ -33,7 +33,8 @@ pub fn same_answer<A: Allocator + Copy>(
     other_name: &str,
     other: &[u8],
 ) -> Result<Answer<A>, Stop>
-    ensures { IfOk result (IsSameAnswer name.now file.now other_name.now other.now) }
+    ensures answer { IfOk result (IsSameAnswer name.now file.now other_name.now other.now) }
+    ensures stop { IfErr result (λ stop. stop ≡ Stop.Memory) }
 {
     match same_objects(alloc, file, other) {
         Ok(is_same) => Ok(comparison(alloc, is_same)?),
