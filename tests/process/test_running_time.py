@@ -183,16 +183,15 @@ def largest_programs():
 
 
 class Object(NamedTuple):
-    """An object file, the greatest processor time of `canon`, `key` and `check`, the cause for which it is refused, and how many times its length
-    `check` needs."""
+    """An object file, the greatest processor time of `canon`, `key` and `check`, the cause for which it is refused, and the number of faults in its
+    code, which `check` reports in each of its formats."""
 
     make: Callable[[], bytes]
     seconds: float
     cause: bytes = b""
-    check_times: float = TIMES_THE_OBJECT
+    faults: int = 0
 
 
-# `check` stores all that it prints before it writes it.
 OBJECTS = {
     "64 MiB of code": Object(hard_objects.code, 0.4),
     "64 MiB of data": Object(hard_objects.data, 0.4),
@@ -212,10 +211,11 @@ OBJECTS = {
     "1.6 million groups of one section": Object(hard_objects.groups_of_one_section, 1.0, b"ExtensionGroupTwice"),
     "three million access strings": Object(lambda: hard_objects.access_strings(5_000), 0.5),
     "access strings of 14 MiB": Object(lambda: hard_objects.access_strings(14 * MEGABYTE), 0.1, b"ResultTooLarge"),
-    "faults in all sections": Object(hard_objects.faults, 0.1),
-    "faults in sections with a long name": Object(lambda: hard_objects.faults(b"\x1b" * 1_023), 0.3, check_times=10),
-    "a long name of a source file": Object(lambda: hard_objects.faults_with_lines(200_000, 1_000), 0.1),
-    "400,000 lines before those of faults": Object(lambda: hard_objects.faults_with_lines(1_000, 400_000), 0.2),
+    "faults in all sections": Object(hard_objects.faults, 0.1, faults=hard_objects.MOST_SECTIONS - 3),
+    "faults in sections with a long name": Object(lambda: hard_objects.faults(b"\x1b" * 1_023), 0.3, faults=hard_objects.MOST_SECTIONS - 3),
+    "faults in sections with a long name of percent signs": Object(lambda: hard_objects.faults(b"%" * 1_023), 0.3, faults=hard_objects.MOST_SECTIONS - 3),
+    "a long name of a source file": Object(lambda: hard_objects.faults_with_lines(200_000, 1_000), 0.1, faults=hard_objects.MOST_SECTIONS - 5),
+    "400,000 lines before those of faults": Object(lambda: hard_objects.faults_with_lines(1_000, 400_000), 0.2, faults=hard_objects.MOST_SECTIONS - 5),
     "a chain of 900,000 TYPE_TAG": Object(lambda: hard_objects.type_tags(b"tag", 900_000, lambda number: number - 1), 1.0),
     "a loop of 900,000 TYPE_TAG": Object(lambda: hard_objects.type_tags(b"tag", 900_000, lambda number: number % 900_000 + 1), 1.0),
     "900,000 TYPE_TAG of two long names": Object(lambda: hard_objects.type_tags(b"a" * 1_000 + b"1\0" + b"a" * 1_000 + b"2", 900_000, lambda number: number - 1), 1.0),
@@ -260,12 +260,22 @@ def test_programs(program, number):
     assert ran.seconds <= TIMES_THE_TIME * seconds, line
 
 
+# What each form of `check` writes of a file that is accepted, before what it reports of its code.
+CHECKS = {"check -": b"-: accepted\n", "check --format json -": b'{"file":"-","accepted":true}\n', "check --format github -": b""}
+
+
+def object_lines(object):
+    return ["canon -", "key -", *(CHECKS if object.faults else ["check -"])]
+
+
 def is_right(line, ran, object, canonical):
     """Whether an answer is that for an object file with this canonical file, or for one that is refused. `run` has messages in the output."""
     if object.cause:
         return ran.status == 1 and re.fullmatch(rb"-: byte \d+: %s: [^\n]*\n" % object.cause, ran.output)
-    if line == "check -":
-        return ran.status == (1 if b"Opcode" in ran.output else 0) and b"-: accepted\n" in ran.output
+    if line in CHECKS:
+        first, reports = ran.output[: len(CHECKS[line])], ran.output[len(CHECKS[line]) :]
+        is_whole = first == CHECKS[line] and reports.count(b"\n") == reports.count(b"Opcode") == object.faults
+        return is_whole and ran.status == (1 if object.faults else 0)
     return ran.status == 0 and ran.output == (canonical if line == "canon -" else b"%s  -\n" % hashlib.sha256(canonical).hexdigest().encode())
 
 
@@ -275,7 +285,8 @@ def test_objects(object_program, name):
     file = object.make()
     assert len(file) <= LARGEST_PROGRAM
     canonical = b"" if object.cause else run(object_program, "canon -", file, AMPLE).output
-    for line, times in ("canon -", TIMES_THE_OBJECT), ("key -", TIMES_THE_OBJECT), ("check -", object.check_times):
-        ran = run(object_program, line, file, int(times * (len(file) + len(canonical))) + PROCESS)
-        assert is_right(line, ran, object, canonical), f"{line} within {times} times its input: {ran.status} {ran.output[:80]}"
+    memory = TIMES_THE_OBJECT * (len(file) + len(canonical)) + PROCESS
+    for line in object_lines(object):
+        ran = run(object_program, line, file, memory)
+        assert is_right(line, ran, object, canonical), f"{line} within {TIMES_THE_OBJECT} times its input: {ran.status} {ran.output[:80]}"
         assert ran.seconds <= TIMES_THE_TIME * object.seconds, line

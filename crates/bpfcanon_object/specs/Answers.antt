@@ -1,5 +1,5 @@
 -- What each verb answers for a file: a status, what goes to standard output, and what goes to standard error.
-use Rattle.std.specs.Prelude.{◌≡◌, ◌++◌, ℕ, Bool, true, false, List, [], ◌∷◌, codes, Option, Result, Ok, Err, string_bytes}
+use Rattle.std.specs.Prelude.{◌≡◌, ◌==◌, ◌++◌, ◌≤◌, if◌then◌else◌, ℕ, Bool, true, false, List, [], codes, Option, Result, Ok, Err, string_bytes}
 use Rattle.std.specs.Str.{bytes_eq}
 use Rattle.std.specs.declared.vec.Vec.{Vec}
 use Rattle.sha2.specs.Sha256.{sha256}
@@ -81,32 +81,59 @@ pub data IsSameAnswer {A : Type 0} (name file other_name other : List ℕ) (answ
   second : (x : Object) → Denotes file x → (fault : ObjectFault) → IsFault other fault → IsRefused Trouble other_name fault [] answer
       → IsSameAnswer name file other_name other answer
 
--- the answer of check for a file that is refused, in each format
-abbrev pub IsFaultAnswer : {A : Type 0} → Format → List ℕ → ObjectFault → Answer A → Type 0
-IsFaultAnswer Text name fault answer = IsRefused No name fault [] answer
-IsFaultAnswer Json name fault answer =
-    (text : List ℕ) × (Explains fault.cause text × IsAnswer No (json_line name (json_fault fault text)) [] answer)
-IsFaultAnswer Github name fault answer =
-    (text : List ℕ) × (Explains fault.cause text × IsAnswer No (github_line name fault text) [] answer)
+-- what check reports is a message for readers, and goes to standard output for programs
+abbrev pub report_lines : Format → List ℕ → List ℕ
+report_lines Text report = []
+report_lines Json report = report
+report_lines Github report = report
 
--- the status for the lines of code
-abbrev pub code_status : List ℕ → Status
-code_status [] = Yes
-code_status (_ ∷ _) = No
+abbrev pub report_messages : Format → List ℕ → List ℕ
+report_messages Text report = report
+report_messages Json report = []
+report_messages Github report = []
 
--- the lines of code are messages, or follow the line of the file
-abbrev pub IsAnswerWith : {A : Type 0} → Format → List ℕ → List ℕ → Answer A → Type 0
-IsAnswerWith Text lines faults answer = IsAnswer (code_status faults) lines faults answer
-IsAnswerWith Json lines faults answer = IsAnswer (code_status faults) (lines ++ faults) [] answer
-IsAnswerWith Github lines faults answer = IsAnswer (code_status faults) (lines ++ faults) [] answer
+-- what check reports of a file that is refused, in each format
+abbrev pub fault_report : Format → List ℕ → ObjectFault → List ℕ → List ℕ
+fault_report Text name fault text = fault_line name fault text
+fault_report Json name fault text = json_line name (json_fault fault text)
+fault_report Github name fault text = github_line name fault text
 
--- the answer of check for a file that is accepted, in each format: that it is, and what is reported of its code
-abbrev pub IsAcceptedAnswer : {A : Type 0} → Format → Option GroupSet → List ℕ → ℕ → List ℕ → Answer A → Type 0
-IsAcceptedAnswer format target name most file answer =
-    (seen : ℕ) × ((faults : List ℕ) × (AreCodeLines format target name most file (count file) seen faults
-    × IsAnswerWith format (accepted_lines format name) faults answer))
+-- the status for so many findings in code
+abbrev pub count_status : ℕ → Status
+count_status seen = if seen == 0 then Yes else No
 
--- the answer of check for a file, in each format: that it is accepted, or its fault
-pub data IsCheckAnswer {A : Type 0} (format : Format) (target : Option GroupSet) (name file : List ℕ) (answer : Answer A) : Type 0 where
-  accepted : (x : Object) → Denotes file x → IsAcceptedAnswer format target name (most_sources file) file answer → IsCheckAnswer format target name file answer
-  refused : (fault : ObjectFault) → IsFault file fault → IsFaultAnswer format name fault answer → IsCheckAnswer format target name file answer
+-- the status, the lines and the messages of check for a file that is refused
+abbrev pub IsFaultAnswer : Format → List ℕ → ObjectFault → Status → List ℕ → List ℕ → Type 0
+IsFaultAnswer format name fault status lines messages =
+    (text : List ℕ) × (Explains fault.cause text × ((status ≡ No)
+    × ((lines ≡ report_lines format (fault_report format name fault text)) × (messages ≡ report_messages format (fault_report format name fault text)))))
+
+-- the lines and the messages for a file that is accepted, of whose first n sections so many have a finding: that it is, and these
+abbrev pub AreAcceptedLines : Format → Option GroupSet → List ℕ → ℕ → List ℕ → ℕ → ℕ → List ℕ → List ℕ → Type 0
+AreAcceptedLines format target name most file n seen lines messages =
+    (report : List ℕ) × (AreCodeLines format target name most file n seen report
+    × ((lines ≡ accepted_lines format name ++ report_lines format report) × (messages ≡ report_messages format report)))
+
+-- the status, the lines and the messages for a file that is accepted
+abbrev pub IsAcceptedAnswer : Format → Option GroupSet → List ℕ → ℕ → List ℕ → Status → List ℕ → List ℕ → Type 0
+IsAcceptedAnswer format target name most file status lines messages =
+    (seen : ℕ) × ((status ≡ count_status seen) × AreAcceptedLines format target name most file (count file) seen lines messages)
+
+-- those for any file: that it is accepted, or its fault
+pub data IsCheckAnswer (format : Format) (target : Option GroupSet) (name file : List ℕ) (status : Status) (lines messages : List ℕ) : Type 0 where
+  accepted : (x : Object) → Denotes file x → IsAcceptedAnswer format target name (most_sources file) file status lines messages
+      → IsCheckAnswer format target name file status lines messages
+  refused : (fault : ObjectFault) → IsFault file fault → IsFaultAnswer format name fault status lines messages
+      → IsCheckAnswer format target name file status lines messages
+
+-- as much of a file that is accepted as check may have gone through when it ends early: its first sections
+abbrev pub IsAcceptedPart : Format → Option GroupSet → List ℕ → ℕ → List ℕ → List ℕ → List ℕ → Type 0
+IsAcceptedPart format target name most file lines messages =
+    (n : ℕ) × ((seen : ℕ) × ((n ≤ count file) × AreAcceptedLines format target name most file n seen lines messages))
+
+-- as much of any file: its first sections, or its fault
+pub data IsCheckPart (format : Format) (target : Option GroupSet) (name file : List ℕ) (lines messages : List ℕ) : Type 0 where
+  accepted : (x : Object) → Denotes file x → IsAcceptedPart format target name (most_sources file) file lines messages
+      → IsCheckPart format target name file lines messages
+  refused : (fault : ObjectFault) → IsFault file fault → IsFaultAnswer format name fault No lines messages
+      → IsCheckPart format target name file lines messages

@@ -8,5 +8,7 @@ pub mod Github
 pub mod Formats
 pub mod Target
 pub mod Code
+pub mod Written
 pub mod Answers
+pub mod Reports
 pub mod Each

@@ -3,6 +3,7 @@
 ghost use Rattle.std.specs.Prelude.{◌≡◌, [], IfOk, string_bytes};
 ghost use Rattle.bpfcanon_object.specs.Answers as spec;
 ghost use Rattle.bpfcanon_object.specs.Answers.{Explains, IsAnswer, IsRefused};
+ghost use Rattle.bpfcanon_object.specs.Lines as lines;
 ghost use Rattle.bpfcanon_object.specs.Lines.{trouble_line};
 ghost use Rattle.bpfcanon_object.specs.declared.answer.Status.TheVariants.{Trouble};
 
@@ -99,7 +100,22 @@ pub fn explained<A: Allocator + Copy>(
     Ok(text)
 }
 
-/// The answer for a file that is refused: the offset of its fault, the cause, and what it means.
+/// The line for a file that is refused: the offset of its fault, the cause, and what it means.
+pub fn fault_line<A: Allocator + Copy>(
+    alloc: A,
+    name: &str,
+    fault: ObjectFault,
+    text: &str,
+) -> Result<String<A>, AllocError>
+    ensures { IfOk result (λ line. string_bytes line ≡ lines.fault_line name.now fault text.now) }
+{
+    let name = escaped(alloc, name)?;
+    let cause = object_cause_name(fault.cause);
+    let pos = fault.pos;
+    format!(in alloc; "{name}: byte {pos}: {cause}: {text}\n")
+}
+
+/// The answer for a file that is refused.
 pub fn refused_answer<A: Allocator + Copy>(
     alloc: A,
     status: Status,
@@ -109,11 +125,8 @@ pub fn refused_answer<A: Allocator + Copy>(
 ) -> Result<Answer<A>, AllocError>
     ensures { IfOk result (IsRefused status name.now fault []) }
 {
-    let name = escaped(alloc, name)?;
-    let cause = object_cause_name(fault.cause);
     let text = explained(alloc, bytes, fault)?;
-    let pos = fault.pos;
-    let line = format!(in alloc; "{name}: byte {pos}: {cause}: {text}\n")?;
+    let line = fault_line(alloc, name, fault, text.as_str())?;
     Ok(Answer::of_messages(alloc, status, line))
 }
 

@@ -1,22 +1,25 @@
 //! `check`: whether each file is accepted, for readers, programs and GitHub Actions.
 
-ghost use Rattle.std.specs.Prelude.{◌≡◌, IfErr, IfOk, string_bytes};
+ghost use Rattle.std.specs.Prelude.{◌≡◌, IfOk, OnErr, string_bytes};
 ghost use Rattle.bpfcanon_object.specs.Answers as answers;
-ghost use Rattle.bpfcanon_object.specs.Answers.{IsAcceptedAnswer, IsAnswerWith, IsCheckAnswer};
-ghost use Rattle.bpfcanon_object.specs.Answers.{IsFaultAnswer};
+ghost use Rattle.bpfcanon_object.specs.Answers.{IsAcceptedAnswer, IsAcceptedPart, IsCheckAnswer};
+ghost use Rattle.bpfcanon_object.specs.Answers.{IsCheckPart, IsFaultAnswer};
+ghost use Rattle.bpfcanon_object.specs.Written.{IsPartWritten, IsWritten};
 ghost use Rattle.bpfcanon_object.specs.Formats as spec;
 ghost use Rattle.bpfcanon_object.specs.Json.{json_line};
 
-use crate::answer::{Answer, Status, explained, refused_answer};
+use crate::answer::{Status, explained, fault_line};
 use crate::cause::object_cause_name;
-use crate::code_lines::{code_lines, most_sources};
-use crate::desk::Stop;
+use crate::code_lines::{most_sources, put_code_lines};
+use crate::desk::{Stop, write_bytes};
 use crate::escape::escaped;
 use crate::github::{Part, github_text};
 use crate::json::{json_line, json_text};
+use crate::reports::put_report;
 use bpf_insn::GroupSet;
 use bpf_object::{AcceptedObject, ObjectError, ObjectFault};
 use std::alloc::{AllocError, Allocator};
+use std::io::Write;
 
 /// How answers are written.
 #[derive(Clone, Copy, Debug, PartialEq, Eq)]
@@ -63,53 +66,38 @@ fn accepted_lines<A: Allocator + Copy>(
     }
 }
 
-/// The status for the lines of code.
-fn code_status(faults: &str) -> Status
-    ensures { result ≡ answers.code_status faults.now }
+/// The status for so many findings in code.
+fn count_status(seen: usize) -> Status
+    ensures { result ≡ answers.count_status seen }
 {
-    if faults.is_empty() {
-        Status::Yes
-    } else {
-        Status::No
-    }
+    if seen == 0 { Status::Yes } else { Status::No }
 }
 
-/// An answer of the lines for a file, and those of its code.
-fn answer_with<A: Allocator + Copy>(
+/// Writes that a file is accepted, and what is reported of its code. At most `most` source lines are
+/// looked for.
+fn put_accepted<A: Allocator + Copy, O: Write, E: Write>(
     alloc: A,
-    format: Format,
-    lines: String<A>,
-    faults: String<A>,
-) -> Result<Answer<A>, AllocError>
-    ensures { IfOk result (IsAnswerWith format (string_bytes lines) (string_bytes faults)) }
-{
-    let status = code_status(faults.as_str());
-    if format == Format::Text {
-        return Ok(Answer {
-            status,
-            lines,
-            messages: faults,
-        });
-    }
-    let mut all = lines;
-    all.push_str(faults.as_str())?;
-    Ok(Answer::of_lines(alloc, status, all))
-}
-
-/// The answer for a file that is accepted. At most `most` source lines are looked for.
-fn accepted_answer<A: Allocator + Copy>(
-    alloc: A,
+    lines: &mut O,
+    messages: &mut E,
     format: Format,
     target: Option<GroupSet>,
     name: &str,
     object: &AcceptedObject<'_>,
     most: usize,
-) -> Result<Answer<A>, AllocError>
-    ensures { IfOk result (IsAcceptedAnswer format target name.now most object.now) }
+) -> Result<Status, Stop>
+    ensures whole { IfOk result (λ status. IsWritten
+        (IsAcceptedAnswer format target name.now most object.now status)
+        (O.contents lines.old) (O.contents lines.new)
+        (E.contents messages.old) (E.contents messages.new)) }
+    ensures part { OnErr result (IsPartWritten
+        (IsAcceptedPart format target name.now most object.now)
+        (O.contents lines.old) (O.contents lines.new)
+        (E.contents messages.old) (E.contents messages.new)) }
 {
-    let lines = accepted_lines(alloc, format, name)?;
-    let faults = code_lines(alloc, format, target, name, object, most)?;
-    Ok(answer_with(alloc, format, lines, faults)?)
+    let first = accepted_lines(alloc, format, name)?;
+    write_bytes(lines, first.as_bytes())?;
+    let seen = put_code_lines(alloc, lines, messages, format, target, name, object, most)?;
+    Ok(count_status(seen))
 }
 
 /// The members for a fault: its offset, its cause, and what that means.
@@ -160,53 +148,82 @@ fn github_line<A: Allocator + Copy>(
     format!(in alloc; "::error file={file}::{name}: byte {pos}: {cause}: {text}\n")
 }
 
-/// The answer for a file that is refused.
-fn fault_answer<A: Allocator + Copy>(
+/// What is reported of a file that is refused.
+fn fault_report<A: Allocator + Copy>(
     alloc: A,
+    format: Format,
+    name: &str,
+    fault: ObjectFault,
+    text: &str,
+) -> Result<String<A>, AllocError>
+    ensures { IfOk result (λ report.
+        string_bytes report ≡ answers.fault_report format name.now fault text.now) }
+{
+    match format {
+        Format::Text => fault_line(alloc, name, fault, text),
+        Format::Json => json_fault_line(alloc, name, fault, text),
+        Format::Github => github_line(alloc, name, fault, text),
+    }
+}
+
+/// Writes what is reported of a file that is refused.
+fn put_fault<A: Allocator + Copy, O: Write, E: Write>(
+    alloc: A,
+    lines: &mut O,
+    messages: &mut E,
     format: Format,
     name: &str,
     bytes: &[u8],
     fault: ObjectFault,
-) -> Result<Answer<A>, AllocError>
-    ensures { IfOk result (IsFaultAnswer format name.now fault) }
+) -> Result<Status, Stop>
+    ensures whole { IfOk result (λ status. IsWritten (IsFaultAnswer format name.now fault status)
+        (O.contents lines.old) (O.contents lines.new)
+        (E.contents messages.old) (E.contents messages.new)) }
+    ensures part { OnErr result (IsPartWritten (IsFaultAnswer format name.now fault Status.No)
+        (O.contents lines.old) (O.contents lines.new)
+        (E.contents messages.old) (E.contents messages.new)) }
 {
-    match format {
-        Format::Text => refused_answer(alloc, Status::No, name, bytes, fault),
-        Format::Json => {
-            let text = explained(alloc, bytes, fault)?;
-            let line = json_fault_line(alloc, name, fault, text.as_str())?;
-            Ok(Answer::of_lines(alloc, Status::No, line))
-        }
-        Format::Github => {
-            let text = explained(alloc, bytes, fault)?;
-            let line = github_line(alloc, name, fault, text.as_str())?;
-            Ok(Answer::of_lines(alloc, Status::No, line))
-        }
-    }
+    let text = explained(alloc, bytes, fault)?;
+    let report = fault_report(alloc, format, name, fault, text.as_str())?;
+    put_report(lines, messages, format, report.as_str())?;
+    Ok(Status::No)
 }
 
-/// The answer for the bytes of a file. With a target it also reports instructions that are in none
-/// of its groups. Source lines are looked for until 64 MiB may have been gone through for them.
+/// Writes the answer for the bytes of a file, each part of it before the next one is made, and gives
+/// the status. With a target it also reports instructions that are in none of its groups. Source lines
+/// are looked for until 64 MiB may have been gone through for them.
 ///
 /// # Errors
 ///
-/// `Memory` if memory can't be allocated.
-pub fn check_answer<A: Allocator + Copy>(
+/// `WriteFailed` if a write fails, and `Memory` if memory can't be allocated. A part of the answer may
+/// be written then.
+pub fn put_check<A: Allocator + Copy, O: Write, E: Write>(
     alloc: A,
+    lines: &mut O,
+    messages: &mut E,
     format: Format,
     target: Option<GroupSet>,
     name: &str,
     bytes: &[u8],
-) -> Result<Answer<A>, Stop>
-    ensures answer { IfOk result (IsCheckAnswer format target name.now bytes.now) }
-    ensures stop { IfErr result (λ stop. stop ≡ Stop.Memory) }
+) -> Result<Status, Stop>
+    ensures whole { IfOk result (λ status. IsWritten
+        (IsCheckAnswer format target name.now bytes.now status)
+        (O.contents lines.old) (O.contents lines.new)
+        (E.contents messages.old) (E.contents messages.new)) }
+    ensures part { OnErr result (IsPartWritten (IsCheckPart format target name.now bytes.now)
+        (O.contents lines.old) (O.contents lines.new)
+        (E.contents messages.old) (E.contents messages.new)) }
 {
     match AcceptedObject::read(alloc, bytes) {
         Ok(object) => {
             let most = most_sources(bytes);
-            Ok(accepted_answer(alloc, format, target, name, &object, most)?)
+            let status = put_accepted(alloc, lines, messages, format, target, name, &object, most)?;
+            Ok(status)
         }
-        Err(ObjectError::Fault(fault)) => Ok(fault_answer(alloc, format, name, bytes, fault)?),
+        Err(ObjectError::Fault(fault)) => {
+            let status = put_fault(alloc, lines, messages, format, name, bytes, fault)?;
+            Ok(status)
+        }
         Err(ObjectError::Memory) => Err(Stop::Memory),
     }
 }

@@ -1,24 +1,28 @@
 //! The lines of `check` for what is reported of code.
 
-ghost use Rattle.std.specs.Prelude.{◌≡◌, ◌<◌, ◌≤◌, ℕ, IfOk, option_map, string_bytes};
+ghost use Rattle.std.specs.Prelude.{◌≡◌, ◌<◌, ◌≤◌, IfOk, OnErr, option_map, string_bytes};
 ghost use Rattle.bpf_elf.specs.Numbers.{count};
 ghost use Rattle.bpf_object.specs.SourceLines.{line_value};
 ghost use Rattle.bpfcanon_object.specs.Code as code_spec;
-ghost use Rattle.bpfcanon_object.specs.Code.{AreCodeLines, IsFoundIn};
+ghost use Rattle.bpfcanon_object.specs.Code.{IsFoundIn};
 ghost use Rattle.bpfcanon_object.specs.Formats as spec;
+ghost use Rattle.bpfcanon_object.specs.Reports.{PutsCodeLines, PutsSomeCodeLines};
 
 use crate::check::Format;
 use crate::code::found_in;
+use crate::desk::Stop;
 use crate::escape::escaped;
 use crate::finding::Finding;
 use crate::github::{Part, github_text};
 use crate::json::{json_line, json_text};
 use crate::names::name_text;
+use crate::reports::{put_if_long, put_report};
 use crate::sources::{github_source, json_source, known, text_source};
 use bpf_elf::FILE_LIMIT;
 use bpf_insn::GroupSet;
 use bpf_object::{AcceptedObject, SourceLine};
 use std::alloc::{AllocError, Allocator};
+use std::io::Write;
 
 /// A location in a section, and why it is reported: `SECTION+0xOFFSET: CAUSE: TEXT`.
 fn code_location<A: Allocator + Copy>(
@@ -157,26 +161,39 @@ fn count_of(found: Option<Finding>) -> usize
     }
 }
 
-/// The lines for what is reported of all sections. For the first `most` of them a source line is looked
-/// for: each time .BTF.ext may be gone through.
-pub fn code_lines<A: Allocator + Copy>(
+/// Writes the lines for what is reported of all sections, and says of how many sections anything is.
+/// For the first `most` of them a source line is looked for: each time .BTF.ext may be gone through.
+///
+/// # Errors
+///
+/// `WriteFailed` if a write fails, and `Memory` if memory can't be allocated.
+pub fn put_code_lines<A: Allocator + Copy, O: Write, E: Write>(
     alloc: A,
+    lines: &mut O,
+    messages: &mut E,
     format: Format,
     target: Option<GroupSet>,
     name: &str,
     object: &AcceptedObject<'_>,
     most: usize,
-) -> Result<String<A>, AllocError>
-    ensures { IfOk result (λ lines. (seen : ℕ) × AreCodeLines format target name.now most object.now
-        (count object.now) seen (string_bytes lines)) }
+) -> Result<usize, Stop>
+    ensures whole { IfOk result (λ seen.
+        PutsCodeLines format target name.now most object.now (count object.now) seen
+        (O.contents lines.old) (O.contents lines.new)
+        (E.contents messages.old) (E.contents messages.new)) }
+    ensures part { OnErr result (PutsSomeCodeLines format target name.now most object.now
+        (O.contents lines.old) (O.contents lines.new)
+        (E.contents messages.old) (E.contents messages.new)) }
 {
-    let mut lines = String::new(alloc);
+    let mut stored = String::new(alloc);
     let mut seen = 0;
     for i in 0..object.elf().section_count() {
         let found = finding(target, object, i);
         let line = line_if(alloc, format, name, object, i, seen < most, found)?;
-        lines.push_str(line.as_str())?;
+        stored.push_str(line.as_str())?;
         seen += count_of(found);
+        put_if_long(lines, messages, format, &mut stored)?;
     }
-    Ok(lines)
+    put_report(lines, messages, format, stored.as_str())?;
+    Ok(seen)
 }

@@ -25,6 +25,7 @@ mod names;
 mod peek;
 mod reason;
 mod remark;
+mod reports;
 mod run;
 mod same;
 mod sources;

@@ -33,11 +33,10 @@ fn run_file<R: Files + Input + AllocGlobal, O: Write, E: Write>(
     each: Each,
     name: &str,
 ) -> Result<(), Stop> {
-    let answer = match read_file(rt, name) {
-        Ok(bytes) => each.answer(rt.alloc(), name, bytes.as_slice())?,
-        Err(error) => error_answer(rt.alloc(), Role::Input, name, &error)?,
-    };
-    desk.put(&answer)
+    match read_file(rt, name) {
+        Ok(bytes) => each.put(rt.alloc(), desk, name, bytes.as_slice()),
+        Err(error) => desk.put(&error_answer(rt.alloc(), Role::Input, name, &error)?),
+    }
 }
 
 /// Answers for a file in a folder, if it is a BPF object file, and says whether it did.
@@ -47,12 +46,11 @@ fn run_member<R: Files + AllocGlobal, O: Write, E: Write>(
     each: Each,
     name: &str,
 ) -> Result<bool, Stop> {
-    let answer = match read_object(rt, name) {
-        Ok(Some(bytes)) => each.answer(rt.alloc(), name, bytes.as_slice())?,
+    match read_object(rt, name) {
+        Ok(Some(bytes)) => each.put(rt.alloc(), desk, name, bytes.as_slice())?,
         Ok(None) => return Ok(false),
-        Err(error) => error_answer(rt.alloc(), Role::Input, name, &error)?,
-    };
-    desk.put(&answer)?;
+        Err(error) => desk.put(&error_answer(rt.alloc(), Role::Input, name, &error)?)?,
+    }
     Ok(true)
 }
 
