@@ -157,7 +157,7 @@ lint:
 
 # The files, and parts of files, that tools/ writes of others: all of it after a change of what they read.
 written:
-	tools/from_causes && tools/from_header && tools/from_mnemonics
+	tools/from_causes && tools/from_header && tools/from_linux && tools/from_mnemonics
 	tools/to_python > out/written && cp out/written bindings/python/bpfcanon/header.py
 	tools/to_rows > out/written && cp out/written crates/bpfcanon/src/tests/vectors.rt
 	tools/to_rust > out/written && cp out/written bindings/rust/src/sys.rs

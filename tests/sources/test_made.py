@@ -10,7 +10,7 @@ TABLE = TOP / "crates" / "bpfcanon" / "src" / "tests" / "vectors.rt"
 SYS = TOP / "bindings" / "rust" / "src" / "sys.rs"
 
 
-@pytest.mark.parametrize("tool", ["from_causes", "from_header", "from_mnemonics"])
+@pytest.mark.parametrize("tool", ["from_causes", "from_header", "from_linux", "from_mnemonics"])
 def test_made(tool):
     done = subprocess.run([TOP / "tools" / tool, "--check"], capture_output=True, text=True)
     assert (done.returncode, done.stdout, done.stderr) == (0, "", "")
