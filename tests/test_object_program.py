@@ -21,6 +21,7 @@ from tests import TOP
 from tests.command import SECONDS, Ran
 from tests.needs import need
 from tests.process.hard_objects import CODE, FAULT, Section, object_file
+from tests.reference import linux_rows
 
 CRATE = TOP / "crates" / "bpfcanon_object"
 # The canonical file that the gate gives to the command on standard input.
@@ -174,8 +175,6 @@ def test_section_of_a_fault(kind, run):
 # Lines that people try, and what the message says. `out` is a folder, and `one` an object file.
 HINTS = {
     "a command of another program": (("diff", "one", "two"), "bpfcanon-object: bpfcanon-review has diff, show and list"),
-    "a version of -mcpu": (("check", "--target", "v3", "one"), "-mcpu=v1 to v4 of clang are no conformance groups"),
-    "a version of -mcpu in one word": (("check", "--target=v3", "one"), "-mcpu=v1 to v4 of clang are no conformance groups"),
     "an output for key": (("key", "one", "-o", "keys"), "only canon has --output: the other commands write to standard output"),
     "a byte order": (("canon", "--to", "big", "one"), "a canonical file has the byte order of its original"),
     "no command": (("one.o",), "the command comes before the files, as in bpfcanon-object key FILE"),
@@ -386,6 +385,102 @@ def test_target(row, run, folder):
     assert has_fault(run("check", "--target", groups, "cut"), "cut", len(CUT))
 
 
+# An instruction of each row of docs/linux.tsv, after r0 = 2 and before exit.
+ADDED = {
+    "base": "b700000002000000",
+    "packet": "3000000000000000",
+    "jlt": "a500000005000000",
+    "call_local": "8510000000000000",
+    "arsh32": "c400000001000000",
+    "jump32": "1600000000000000",
+    "lddw_map_value": "1821000003000000 0000000004000000",
+    "lddw_var": "1831000003000000 0000000000000000",
+    "atomic": "db0af8ff01000000",
+    "call_btf": "8520000007000000",
+    "lddw_code": "1841000003000000 0000000000000000",
+    "lddw_idx": "1851000003000000 0000000000000000",
+    "ldxs": "91a1f8ff00000000",
+    "movsx": "bf00080000000000",
+    "swap": "d700000010000000",
+    "sdiv": "3700010003000000",
+    "ja32": "0600000000000000",
+    "may_goto": "e500000000000000",
+    "addr_space_cast": "bf11010001000000",
+    "load_acquire": "dba1f8ff00010000",
+    "store_release": "d30af8ff10010000",
+}
+
+
+def with_added(name):
+    return with_code(bytes.fromhex(f"b700000002000000 {ADDED[name]} 9500000000000000"))
+
+
+@pytest.mark.parametrize("row", linux_rows.rows(), ids=[it.name for it in linux_rows.rows()])
+def test_added(row, run, folder):
+    """A release and a version of -mcpu have an instruction, and those before lack it."""
+    folder(odd=with_added(row.name))
+    assert [it.name for it in linux_rows.rows_of(bytes.fromhex(ADDED[row.name]))] == [row.name]
+    for target in row.release, f"v{row.mcpu}", "linux-6.18", "v4":
+        assert run("check", "--target", target, "odd") == Ran(0, b"odd: accepted\n")
+    major, minor = row.linux
+    before = [f"linux-{major}.{minor - 1}" if minor else f"linux-{major - 1}.20"] if row.name != "base" else []
+    needs = [f"needs Linux {major}.{minor}"] * len(before) + [f"needs -mcpu=v{row.mcpu}"] * (row.mcpu - 1)
+    for target, lack in zip(before + [f"v{it}" for it in range(1, row.mcpu)], needs, strict=True):
+        text = f"{lack}: {row.name}"
+        ran = Ran(1, b"odd: accepted\n", f"odd: xdp+0x8: Target: {text}\n".encode())
+        assert run("check", "--target", target, "odd") == ran
+        rows = [json.loads(it) for it in run("check", "--format", "json", "--target", target, "odd").output.splitlines()]
+        assert rows[1:] == [{"file": "odd", "section": "xdp", "offset": 8, "cause": "Target", "text": text}]
+        line = f"::error file=odd::odd: xdp+0x8: Target: {text}\n".encode()
+        assert run("check", "--format", "github", "--target", target, "odd") == Ran(1, line)
+
+
+NEWER = ["may_goto", "addr_space_cast", "load_acquire", "store_release"]
+
+
+@pytest.mark.parametrize("name", NEWER)
+def test_newer(name, run, folder):
+    """An instruction that isn't in RFC 9669 is no fault, is in no group, and with another register or immediate is a fault."""
+    (row,) = (it for it in linux_rows.rows() if it.name == name)
+    odd = bytearray.fromhex(ADDED[name])
+    odd[1], odd[4] = 0xBB, 7
+    folder(odd=with_added(name), fault=with_code(bytes(odd)))
+    assert run("check", "odd").status == 0
+    said = f"odd: xdp+0x8: Target: needs Linux {'.'.join(map(str, row.linux))}: {name}\n"
+    groups = "base64,atomic64,divmul64,packet"
+    assert run("check", "--target", groups, "odd") == Ran(1, b"odd: accepted\n", said.encode())
+    assert [run("check", *words, "fault").status for words in ([], ["--target", "linux-6.18"])] == [1, 1]
+
+
+# Names that are no target, and the one that the message has.
+NO_TARGETS = {
+    "an unknown group": ("base32,base16", "base16"),
+    "a later release": ("linux-6.19", "linux-6.19"),
+    "a release that there wasn't": ("linux-4.21", "linux-4.21"),
+    "a release before the first": ("linux-3.17", "linux-3.17"),
+    "a number with a zero": ("linux-5.04", "linux-5.04"),
+    "a number with a sign": ("linux-5.+4", "linux-5.+4"),
+    "a stable release": ("linux-5.4.1", "linux-5.4.1"),
+    "a large number": ("linux-5.260", "linux-5.260"),
+    "no number": ("linux-5", "linux-5"),
+    "a version that there isn't": ("v5", "v5"),
+    "a release and a group": ("linux-5.4,base32", "linux-5.4"),
+    "two versions": ("v2,v3", "v2"),
+    "nothing": ("", ""),
+    "a control character": ("v\x1b[31m", "v\\x1b[31m"),
+}
+
+
+@pytest.mark.parametrize("row", NO_TARGETS.values(), ids=NO_TARGETS)
+def test_no_target(row, run, folder):
+    """The message has the name and says which there are, and no file is checked."""
+    names, wrong = row
+    folder(one=CANONICAL)
+    groups = "base32, base64, atomic32, atomic64, divmul32, divmul64, packet"
+    text = f"--target {wrong}: a target is linux-3.18 to linux-6.18, v1, v2, v3 or v4, or conformance groups: {groups}"
+    assert run("check", "--target", names, "one") == Ran(2, b"", f"bpfcanon-object: {text}\n".encode())
+
+
 def test_folders(run, folder):
     """A folder is all BPF object files in it, by name. Links in it, ELF files for another machine and other files are left out."""
     made = folder(b=CANONICAL, text=b"no object", empty=b"")
@@ -419,7 +514,6 @@ WORDS = {
     "an unknown option": ("key", "--raw", "one"),
     "no output": ("canon", "one", "-o"),
     "an unknown format": ("check", "--format", "xml", "one"),
-    "an unknown group": ("check", "--target", "base32,base16", "one"),
     "two targets": ("check", "--target", "base32", "--target", "base64", "one"),
 }
 

@@ -1,9 +1,10 @@
-"""docs/linux.tsv against clang: what each version of -mcpu writes."""
+"""docs/linux.tsv, and the command that has it, against clang: what each version of -mcpu writes."""
 
 import subprocess
 
 import pytest
 
+from tests.command import SECONDS
 from tests.needs import need
 from tests.reference import linux_rows
 
@@ -50,3 +51,14 @@ def test_clang(compiler, version, tmp_path):
     """clang writes what the rows of its version have, and what it is first to write is in the code."""
     found = {it.mcpu for it in linux_rows.rows_of(code_of(compiled(compiler, version), tmp_path))}
     assert max(found) == version
+
+
+@pytest.mark.parametrize("compiler, version", VERSIONS)
+def test_check(compiler, version, tmp_path, object_program):
+    """The command accepts what clang writes for a version, and for an earlier one reports what the version is first to have."""
+    (tmp_path / "made.o").write_bytes(compiled(compiler, version, "-g"))
+    for target in range(1, 5):
+        line = [object_program, "check", "--target", f"v{target}", "made.o"]
+        ran = subprocess.run(line, cwd=tmp_path, capture_output=True, text=True, timeout=SECONDS)
+        assert ran.returncode == int(target < version), ran.stderr
+        assert ("needs -mcpu=v" in ran.stderr) == (target < version)

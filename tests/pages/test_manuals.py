@@ -19,6 +19,11 @@ OBJECT, REVIEW = (
 )
 FORMATS = re.search(r"pub const NAMES: .*? = \[(.*)\];", (TOP / "crates/bpfcanon_object/src/check.rt").read_text())[1]
 GROUPS = re.findall(r'Group::\w+ => "(\w+)"', (TOP / "crates/bpf_insn/src/group.rt").read_text())
+# The versions of LLVM's instruction set, and the releases of Linux from the first to the last of each series that the command knows.
+NAMES = (TOP / "crates/bpfcanon_object/src/target_name.rt").read_text()
+VERSIONS = re.findall(r'"(v\d)" => Some', NAMES)
+SERIES = re.findall(r"^        (\d) => (?:(\d+) <= linux\.minor && )?linux\.minor <= (\d+),", NAMES, re.MULTILINE)
+RELEASES = [f"linux-{major}.{minor}" for major, first, last in SERIES for minor in range(int(first or 0), int(last) + 1)]
 
 
 def long_options(pattern, source):
@@ -32,7 +37,7 @@ COMMANDS = {
     "bpfcanon-object": long_options(r'fn \w+_command(?=(.*?\n\}))(?=.*?Command::new\(alloc, "(\w+)")', OBJECT),
     "bpfcanon-review": long_options(r'made = add(?=(.*?)(?:made = |return ))\("(\w+)"', REVIEW),
 }
-VALUES = dict.fromkeys(("--order", "--to", "--other"), ["big", "little"]) | {"--format": re.findall(r"\w+", FORMATS), "--target": GROUPS}
+VALUES = dict.fromkeys(("--order", "--to", "--other"), ["big", "little"]) | {"--format": re.findall(r"\w+", FORMATS), "--target": [*GROUPS, *VERSIONS, *RELEASES]}
 PAGES = manual_pages()
 
 
@@ -66,7 +71,7 @@ def test_zsh(name):
     assert {command: {*options} for command, options in COMMANDS[name].items() if options or command in found} == found
     assert set(re.findall(r"^    '([\w-]+):", text, re.MULTILINE)) == {*COMMANDS[name]}
     for option in {it for options in COMMANDS[name].values() for it in options}:
-        assert f"local {option[2:]}='{option}[" in text and all(re.search(rf"\b{value}\b", text) for value in VALUES.get(option, ()))
+        assert f"local {option[2:]}='{option}[" in text and all(re.search(rf"\b{value}\b", text) for value in VALUES.get(option, ()) if value not in VERSIONS + RELEASES)
 
 
 def shown(page):
@@ -84,7 +89,7 @@ def test_options(name):
     page = re.sub(r"\b(?:clang|git|llvm-obj\w+|sha256sum) .*", "", shown(PAGES[f"{name}.1"]))
     options = {it for options in COMMANDS[name].values() for it in options}
     assert set(re.findall(r"(?<![\w-])--\w+", page)) - {"--help", "--version"} == options
-    words = [*COMMANDS[name], *(value for it in options for value in VALUES.get(it, ()))]
+    words = [*COMMANDS[name], *(value for it in options for value in VALUES.get(it, ()) if value not in RELEASES[1:-1])]
     assert [it for it in words if not re.search(rf"(?<!\w){it}\b", page)] == []
 
 

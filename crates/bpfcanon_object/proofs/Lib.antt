@@ -1,6 +1,7 @@
 mod CodeLemmas
 pub mod EscapeLemmas
 pub mod FormatCharacters
+pub mod ItemLemmas
 pub mod KeyLineLemmas
 mod ReportLemmas
 pub mod TargetLemmas

@@ -1,122 +1,74 @@
--- Finding the first instruction outside a target.
-use Rattle.std.proofs.Common.{◌≡◌, ℕ, ◌+◌, ◌-◌, ◌<◌, ◌≤◌, List, [], ◌∷◌, ◌++◌, length, take, drop, Some, None, All, false, refl, sym, ap, ◌∙◌, arith, subst, append_assoc, length-append, length-drop}
-use Rattle.std.proofs.Math.Seq.{drop-append_seam}
-use Rattle.std.proofs.lemmas.List.{append-nil, drop_all, take_all, Elements.All-cons, Elements.All-drop, Elements.All-head, Elements.All-nil, Elements.All-push, Elements.All-same, Concat.flat_map-append}
+-- What is reported of code that is read instruction by instruction.
+use Rattle.std.proofs.Common.{◌≡◌, ℕ, ◌+◌, ◌-◌, ◌<◌, ◌≤◌, List, [], ◌∷◌, ◌++◌, length, take, drop, All, Option, Some, None, refl, sym, ap, subst, ◌∙◌, arith, length-append, length-drop}
+use Rattle.std.proofs.lemmas.List.{append-nil, Elements.All-map, Folds.flat_map-map}
+use Rattle.std.specs.Prelude.{map}
 use Rattle.bpf_words.specs.declared.Order.{Order}
-use Rattle.bpf_insn.specs.declared.{insn.Insn.Insn, fault.SlotFault.SlotFault, group.Group.Group, group.GroupSet.GroupSet}
-use Rattle.bpf_insn.specs.{Table.IsInsn, Encoding.encoding, Encoding.file_of, Encoding.InsnFile, Faults.BeginsWith, Faults.IsSlotFault, Groups.group_of, Groups.holds}
-use Rattle.bpf_insn.proofs.FileLaws.{at_least_a_slot, begins_once, empty_begins_none}
-use Rattle.bpfcanon_object.specs.Target.{IsFirstOutside, IsWithin}
+use Rattle.bpf_insn.specs.declared.{insn.Insn.Insn, fault.SlotFault.SlotFault}
+use Rattle.bpf_insn.specs.{Encoding.InsnFile, Faults.IsSlotFault}
+use Rattle.bpfcanon_object.specs.Code.{IsEnd, IsFound}
+use Rattle.bpfcanon_object.specs.Items.{Begins, IsFront, IsItem, Item, code_of, item_bytes, need_of}
+use Rattle.bpfcanon_object.specs.Items.Item.{standard}
+use Rattle.bpfcanon_object.specs.Target.{first_of, first_outside, outside_at}
+use Rattle.bpfcanon_object.specs.declared.{finding.Finding.Finding, finding.Reason.TheVariants.Fault, target.Target.Target}
+use Rattle.bpfcanon_object.proofs.ItemLemmas.{AreBefore, ends, ends_at, rest_is, short_begins_none}
 
--- the instructions of a file, of which those before an offset are in the target
-pub record AreWithinBefore (order : Order) (target : GroupSet) (bytes : List ℕ) (at : ℕ) : Type 0 where
-  pub before : List Insn
-  pub after : List Insn
-  pub file : InsnFile order bytes (before ++ after)
-  pub at_offset : at ≡ length (file_of order before)
-  pub within : All (IsWithin (Some target)) before
+first_of-assoc : (a b c : Option Finding) → first_of (first_of a b) c ≡ first_of a (first_of b c)
+first_of-assoc None b c = refl
+first_of-assoc (Some x) b c = refl
 
-pub at_start : (order : Order) (target : GroupSet) (bytes : List ℕ) (insns : List Insn) → InsnFile order bytes insns → AreWithinBefore order target bytes 0
-at_start order target bytes insns file =
-    record { before = []; after = insns; file = file; at_offset = refl; within = All-nil (IsWithin (Some target)) }
+first_of-none : (a : Option Finding) → first_of a None ≡ a
+first_of-none None = refl
+first_of-none (Some x) = refl
 
--- without a target each instruction is in it
-pub all_within : (insns : List Insn) → All (IsWithin None) insns
-all_within [] = All-nil (IsWithin None)
-all_within (i ∷ insns) = All-cons (IsWithin None) i insns tt (all_within insns)
+-- one item more
+pub outside-push : (order : Order) (target : Option Target) (at : ℕ) (items : List Item) (x : Item)
+    → first_outside order target at (items ++ x ∷ []) ≡ first_of (first_outside order target at items) (outside_at target (at + length (code_of order items)) (need_of x))
+outside-push order target at [] x =
+    first_of-none (outside_at target at (need_of x)) ∙ ap (λ n. outside_at target n (need_of x)) (omega arith)
+outside-push order target at (item ∷ items) x =
+    let next : ℕ = at + length (item_bytes order item) in
+    let here : Option Finding = outside_at target at (need_of item) in
+    let later : Option Finding = first_outside order target next items in
+    ap (first_of here) (outside-push order target next items x)
+    ∙ sym (first_of-assoc here later (outside_at target (next + length (code_of order items)) (need_of x)))
+    ∙ ap (λ n. first_of (first_of here later) (outside_at target n (need_of x)))
+    (omega (arith, length-append (item_bytes order item) (code_of order items)))
 
--- bytes of instructions that begin with an instruction are of one that begins with it
-head_is : (order : Order) (i : Insn) (s : List ℕ) (insns : List Insn) → All IsInsn insns → s ≡ file_of order insns → BeginsWith order i s
-    → (more : List Insn) × (insns ≡ i ∷ more)
-head_is order i s [] each e b =
-    let P : List ℕ → Type 0 = λ x. BeginsWith order i x in
-    absurd (empty_begins_none order i (subst P e b))
-head_is order i s (j ∷ more) each e b =
-    let there : BeginsWith order j s = (All-head IsInsn j more each, (file_of order more, e)) in
-    (more, ap (λ (x : Insn). x ∷ more) (begins_once order j i s there b))
+module _ (order : Order) (target : Option Target) (bytes : List ℕ) (at : ℕ) (items : List Item) (h : AreBefore order bytes at items) where
+  pub found_at_end : (found : Option Finding) → length bytes ≤ at → found ≡ first_outside order target 0 items → IsFound order target bytes found
+  found_at_end found end e = (items, ([], (ends order bytes at items h end, e)))
 
--- and those that begin with none are of none
-none_is : (order : Order) (s : List ℕ) (insns : List Insn) → All IsInsn insns → s ≡ file_of order insns → ((i : Insn) → ¬ BeginsWith order i s) → insns ≡ []
-none_is order s [] each e none = refl
-none_is order s (j ∷ more) each e none = absurd (none j (All-head IsInsn j more each, (file_of order more, e)))
+  fault_of_rest : (rest : List ℕ) (slot : SlotFault) → 0 < length rest → IsSlotFault order rest slot
+      → IsEnd order target items rest (Some (record { pos = length (code_of order items) + slot.pos; reason = Fault slot.cause }))
+  fault_of_rest [] slot some f = absurd (omega (arith, some))
+  fault_of_rest (x ∷ rest) slot some f = (slot, (f, refl))
 
-module _ (order : Order) (target : GroupSet) (bytes : List ℕ) (at : ℕ) (h : AreWithinBefore order target bytes at) where
-  whole : bytes ≡ file_of order h.before ++ file_of order h.after
-  whole = h.file.1 ∙ flat_map-append (encoding order) h.before h.after
+  pub found_at_fault : (slot : SlotFault) → at < length bytes → IsSlotFault order (take (length bytes - at) (drop at bytes)) slot
+      → ((item : Item) → ¬ Begins order item (take (length bytes - at) (drop at bytes)))
+      → IsFound order target bytes (Some (record { pos = at + slot.pos; reason = Fault slot.cause }))
+  found_at_fault slot before f none =
+      let here : IsSlotFault order h.rest slot = subst (λ s. IsSlotFault order s slot) (rest_is order bytes at items h) f in
+      let some : 0 < length h.rest = omega (arith, before, h.at_offset, ap length h.front, length-append (code_of order items) h.rest) in
+      let found : Option Finding = Some (record { pos = at + slot.pos; reason = Fault slot.cause }) in
+      let e : Some (record { pos = length (code_of order items) + slot.pos; reason = Fault slot.cause }) ≡ found =
+      ap (λ n. Some (record { pos = n + slot.pos; reason = Fault slot.cause })) (sym h.at_offset) in
+      (items, (h.rest, (ends_at order bytes at items h none, subst (IsEnd order target items h.rest) e (fault_of_rest h.rest slot some here))))
 
-  rest_is : take (length bytes - at) (drop at bytes) ≡ file_of order h.after
-  rest_is =
-      take_all (length bytes - at) (drop at bytes) (omega (arith, length-drop at bytes))
-      ∙ ap (λ (n : ℕ). drop n bytes) h.at_offset ∙ ap (drop (length (file_of order h.before))) whole
-      ∙ drop-append_seam (file_of order h.before) (file_of order h.after)
+-- instructions of RFC 9669 without a target
+none_outside : (order : Order) (at : ℕ) (items : List Item) → first_outside order None at items ≡ None
+none_outside order at [] = refl
+none_outside order at (item ∷ items) = none_outside order (at + length (item_bytes order item)) items
 
-  each_after : All IsInsn h.after
-  each_after =
-      All-same IsInsn h.after (drop (length h.before) (h.before ++ h.after)) (sym (drop-append_seam h.before h.after))
-      (All-drop IsInsn (length h.before) (h.before ++ h.after) h.file.0)
-
-  -- the instruction at the offset is the next one
-  next_is : (i : Insn) → BeginsWith order i (take (length bytes - at) (drop at bytes)) → (more : List Insn) × (h.after ≡ i ∷ more)
-  next_is i b = head_is order i _ h.after each_after rest_is b
-
-  file_with : (i : Insn) (more : List Insn) → h.after ≡ i ∷ more → InsnFile order bytes (h.before ++ i ∷ more)
-  file_with i more e =
-      let P : List Insn → Type 0 = λ x. InsnFile order bytes (h.before ++ x) in
-      subst P e h.file
-
-  pub moved_on : (i : Insn) (len : ℕ) → BeginsWith order i (take (length bytes - at) (drop at bytes)) × (len ≡ length (encoding order i)) → IsWithin (Some target) i
-      → AreWithinBefore order target bytes (at + len)
-  moved_on i len b within =
-      let next = next_is i b.0 in
-      let P : List Insn → Type 0 = λ x. InsnFile order bytes x in
-      let one : file_of order (h.before ++ i ∷ []) ≡ file_of order h.before ++ encoding order i =
-      flat_map-append (encoding order) h.before (i ∷ []) ∙ ap (λ (x : List ℕ). file_of order h.before ++ x) (append-nil (encoding order i)) in
-      record {
-        before = h.before ++ i ∷ [];
-        after = next.0;
-        file = subst P (sym (append_assoc h.before (i ∷ []) next.0)) (file_with i next.0 next.1);
-        at_offset = omega (arith, h.at_offset, b.1, ap length one, length-append (file_of order h.before) (encoding order i));
-        within = All-push (IsWithin (Some target)) h.before i h.within within;
-      }
-
-  pub smaller : (i : Insn) (len : ℕ) → BeginsWith order i (take (length bytes - at) (drop at bytes)) × (len ≡ length (encoding order i)) → IsWithin (Some target) i
-      → length bytes - (at + len) < length bytes - at
-  smaller i len b within =
-      let next = moved_on i len b within in
-      let all : bytes ≡ file_of order next.before ++ file_of order next.after = next.file.1 ∙ flat_map-append (encoding order) next.before next.after in
-      omega (arith, next.at_offset, ap length all, length-append (file_of order next.before) (file_of order next.after), b.1, at_least_a_slot order i)
-
-  pub outside_at : (i : Insn) (group : Group) → BeginsWith order i (take (length bytes - at) (drop at bytes)) → holds target group ≡ false → group ≡ group_of i
-      → IsFirstOutside order (Some target) bytes at group
-  outside_at i group b lacks e =
-      let next = next_is i b in
-      let none : holds target (group_of i) ≡ false = ap (holds target) (sym e) ∙ lacks in
-      record {
-        before = h.before;
-        insn = i;
-        after = next.0;
-        file = file_with i next.0 next.1;
-        within = h.within;
-        outside = λ yes. cc;
-        at_offset = h.at_offset;
-        of_insn = e;
-      }
-
-  none_left : ((i : Insn) → ¬ BeginsWith order i (take (length bytes - at) (drop at bytes))) → (insns : List Insn) × (InsnFile order bytes insns × All (IsWithin (Some target)) insns)
-  none_left unencoded =
-      let none = none_is order _ h.after each_after rest_is unencoded in
-      let P : List Insn → Type 0 = λ x. InsnFile order bytes (h.before ++ x) in
-      let Q : List Insn → Type 0 = λ x. InsnFile order bytes x in
-      (h.before, (subst Q (append-nil h.before) (subst P none h.file), h.within))
-
-  -- what isn't an instruction can't follow
-  pub at_fault : (fault : SlotFault) → IsSlotFault order (take (length bytes - at) (drop at bytes)) fault
-      → (insns : List Insn) × (InsnFile order bytes insns × All (IsWithin (Some target)) insns)
-  at_fault fault f = none_left f.unencoded
-
-  pub at_end : length bytes ≤ at → (insns : List Insn) × (InsnFile order bytes insns × All (IsWithin (Some target)) insns)
-  at_end end =
-      let P : List ℕ → Type 0 = λ s. (i : Insn) → ¬ BeginsWith order i s in
-      let rest : take (length bytes - at) (drop at bytes) ≡ [] =
-      take_all (length bytes - at) (drop at bytes) (omega (arith, length-drop at bytes)) ∙ drop_all at bytes end in
-      none_left (subst P (sym rest) (empty_begins_none order))
+pub found_in_file : (order : Order) (bytes : List ℕ) (insns : List Insn) → InsnFile order bytes insns → IsFound order None bytes None
+found_in_file order bytes insns file =
+    let items : List Item = map standard insns in
+    let same : bytes ≡ code_of order items ++ [] = file.1 ∙ sym (flat_map-map (item_bytes order) standard insns) ∙ sym (append-nil (code_of order items)) in (
+      items,
+      (
+        [],
+        (
+          record { each = All-map IsItem standard insns file.0; front = same; none = λ item. short_begins_none order item [] (omega arith) },
+          sym (none_outside order 0 items),
+        ),
+      ),
+    )

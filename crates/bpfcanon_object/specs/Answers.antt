@@ -11,7 +11,7 @@ use Rattle.bpfcanon_object.specs.declared.answer.Status.TheVariants.{Yes, No, Tr
 use Rattle.bpfcanon_object.specs.declared.check.Format.{Format}
 use Rattle.bpfcanon_object.specs.declared.check.Format.TheVariants.{Text, Json, Github}
 use Rattle.bpf_elf.specs.Numbers.{count}
-use Rattle.bpf_insn.specs.declared.group.GroupSet.{GroupSet}
+use Rattle.bpfcanon_object.specs.declared.target.Target.{Target}
 use Rattle.bpfcanon_object.specs.Code.{AreCodeLines, most_sources}
 use Rattle.bpfcanon_object.specs.{Formats.accepted_lines, Formats.json_fault, Formats.github_line, Json.json_line}
 use Rattle.bpfcanon_object.specs.{Lines.fault_line, Lines.newline, Lines.trouble_line, KeyLines.key_line, KeyLines.row_line}
@@ -109,30 +109,30 @@ IsFaultAnswer format name fault status lines messages =
     × ((lines ≡ report_lines format (fault_report format name fault text)) × (messages ≡ report_messages format (fault_report format name fault text)))))
 
 -- the lines and the messages for a file that is accepted, of whose first n sections so many have a finding: that it is, and these
-abbrev pub AreAcceptedLines : Format → Option GroupSet → List ℕ → ℕ → List ℕ → ℕ → ℕ → List ℕ → List ℕ → Type 0
+abbrev pub AreAcceptedLines : Format → Option Target → List ℕ → ℕ → List ℕ → ℕ → ℕ → List ℕ → List ℕ → Type 0
 AreAcceptedLines format target name most file n seen lines messages =
     (report : List ℕ) × (AreCodeLines format target name most file n seen report
     × ((lines ≡ accepted_lines format name ++ report_lines format report) × (messages ≡ report_messages format report)))
 
 -- the status, the lines and the messages for a file that is accepted
-abbrev pub IsAcceptedAnswer : Format → Option GroupSet → List ℕ → ℕ → List ℕ → Status → List ℕ → List ℕ → Type 0
+abbrev pub IsAcceptedAnswer : Format → Option Target → List ℕ → ℕ → List ℕ → Status → List ℕ → List ℕ → Type 0
 IsAcceptedAnswer format target name most file status lines messages =
     (seen : ℕ) × ((status ≡ count_status seen) × AreAcceptedLines format target name most file (count file) seen lines messages)
 
 -- those for any file: that it is accepted, or its fault
-pub data IsCheckAnswer (format : Format) (target : Option GroupSet) (name file : List ℕ) (status : Status) (lines messages : List ℕ) : Type 0 where
+pub data IsCheckAnswer (format : Format) (target : Option Target) (name file : List ℕ) (status : Status) (lines messages : List ℕ) : Type 0 where
   accepted : (x : Object) → Denotes file x → IsAcceptedAnswer format target name (most_sources file) file status lines messages
       → IsCheckAnswer format target name file status lines messages
   refused : (fault : ObjectFault) → IsFault file fault → IsFaultAnswer format name fault status lines messages
       → IsCheckAnswer format target name file status lines messages
 
 -- as much of a file that is accepted as check may have gone through when it ends early: its first sections
-abbrev pub IsAcceptedPart : Format → Option GroupSet → List ℕ → ℕ → List ℕ → List ℕ → List ℕ → Type 0
+abbrev pub IsAcceptedPart : Format → Option Target → List ℕ → ℕ → List ℕ → List ℕ → List ℕ → Type 0
 IsAcceptedPart format target name most file lines messages =
     (n : ℕ) × ((seen : ℕ) × ((n ≤ count file) × AreAcceptedLines format target name most file n seen lines messages))
 
 -- as much of any file: its first sections, or its fault
-pub data IsCheckPart (format : Format) (target : Option GroupSet) (name file : List ℕ) (lines messages : List ℕ) : Type 0 where
+pub data IsCheckPart (format : Format) (target : Option Target) (name file : List ℕ) (lines messages : List ℕ) : Type 0 where
   accepted : (x : Object) → Denotes file x → IsAcceptedPart format target name (most_sources file) file lines messages
       → IsCheckPart format target name file lines messages
   refused : (fault : ObjectFault) → IsFault file fault → IsFaultAnswer format name fault No lines messages

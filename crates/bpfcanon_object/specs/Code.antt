@@ -1,38 +1,40 @@
--- What is reported of code: of each section of code the first offset where the bytes aren't an instruction (RFC 9669 section 3), or else the
--- first instruction outside the target.
-use Rattle.std.specs.Prelude.{◌≡◌, ◌++◌, ◌+◌, ◌/◌, ◌&&◌, if◌then◌else◌, ℕ, zero, suc, Bool, true, false, List, [], Option, Some, None, All, length, nat_lt}
+-- What is reported of code: of each section of code the first offset where the bytes aren't an instruction, of RFC 9669 or a newer one, or else
+-- the first instruction outside the target.
+use Rattle.std.specs.Prelude.{◌≡◌, ◌++◌, ◌+◌, ◌/◌, ◌&&◌, if◌then◌else◌, ℕ, zero, suc, Bool, true, false, List, [], ◌∷◌, Option, Some, None, length, nat_lt}
 use Rattle.bpf_words.specs.declared.Order.{Order}
 use Rattle.bpf_elf.specs.declared.kinds.Kind.TheVariants.{Data}
 use Rattle.bpf_elf.specs.{Kinds.has_flag, Kinds.is_kind, Numbers.flags, Numbers.order_of}
 use Rattle.bpf_elf.specs.Sections.{content, kind, name}
 use Rattle.bpf_object.specs.SourceLines.{Line, source_line}
-use Rattle.bpf_insn.specs.declared.{insn.Insn.Insn, group.GroupSet.GroupSet}
-use Rattle.bpf_insn.specs.{Faults.IsInsnFault, Encoding.InsnFile}
-use Rattle.bpfcanon_object.specs.{Formats.code_line, Formats.name_text, Target.IsFirstOutside, Target.IsWithin}
-use Rattle.bpfcanon_object.specs.declared.finding.{Finding.Finding, Reason.Reason, Reason.TheVariants.Fault, Reason.TheVariants.Outside}
+use Rattle.bpf_insn.specs.{declared.fault.SlotFault.SlotFault, Faults.IsSlotFault}
+use Rattle.bpfcanon_object.specs.{Formats.code_line, Formats.name_text, Items.IsFront, Items.Item, Items.code_of, Target.first_outside}
+use Rattle.bpfcanon_object.specs.declared.finding.{Finding.Finding, Reason.TheVariants.Fault}
+use Rattle.bpfcanon_object.specs.declared.target.Target.{Target}
 use Rattle.bpfcanon_object.specs.declared.check.Format.{Format}
 
 -- a section of code: SHF_EXECINSTR is 4
 abbrev pub is_code : List ℕ → ℕ → Bool
 is_code b i = is_kind Data (kind b i) && has_flag 4 (flags b i)
 
--- the bytes at this offset aren't an instruction, or are the first one outside the target
-abbrev pub IsReason : Order → Option GroupSet → List ℕ → ℕ → Reason → Type 0
-IsReason order target bytes pos (Fault cause) = IsInsnFault order bytes (record { pos = pos; cause = cause })
-IsReason order target bytes pos (Outside group) = IsFirstOutside order target bytes pos group
+-- what is reported of these items and of what follows them: the fault of the rest, or the first item outside the target
+abbrev pub IsEnd : Order → Option Target → List Item → List ℕ → Option Finding → Type 0
+IsEnd order target items [] found = found ≡ first_outside order target 0 items
+IsEnd order target items (x ∷ rest) found =
+    (slot : SlotFault) × (IsSlotFault order (x ∷ rest) slot
+    × (found ≡ Some (record { pos = length (code_of order items) + slot.pos; reason = Fault slot.cause })))
 
--- the bytes are instructions in the target, or this is the first offset where they aren't
-abbrev pub IsFound : Order → Option GroupSet → List ℕ → Option Finding → Type 0
-IsFound order target bytes None = (insns : List Insn) × (InsnFile order bytes insns × All (IsWithin target) insns)
-IsFound order target bytes (Some found) = IsReason order target bytes found.pos found.reason
+-- what is reported of bytes, if anything is: instructions, as many as they begin with, and what follows
+abbrev pub IsFound : Order → Option Target → List ℕ → Option Finding → Type 0
+IsFound order target bytes found =
+    (items : List Item) × ((rest : List ℕ) × (IsFront order bytes items rest × IsEnd order target items rest found))
 
 -- nothing is reported of what isn't code
-abbrev pub IsFoundIf : Bool → Order → Option GroupSet → List ℕ → Option Finding → Type 0
+abbrev pub IsFoundIf : Bool → Order → Option Target → List ℕ → Option Finding → Type 0
 IsFoundIf true order target bytes found = IsFound order target bytes found
 IsFoundIf false order target bytes found = found ≡ None
 
 -- what is reported of a section, if anything is
-abbrev pub IsFoundIn : Option GroupSet → List ℕ → ℕ → Option Finding → Type 0
+abbrev pub IsFoundIn : Option Target → List ℕ → ℕ → Option Finding → Type 0
 IsFoundIn target b i found = IsFoundIf (is_code b i) (order_of b) target (content b i) found
 
 -- whether a source line has a number and a name. Those of a canonical file have neither
@@ -63,7 +65,7 @@ count_of None = 0
 count_of (Some found) = 1
 
 -- the lines for the first n sections, of which so many have a finding. Source lines are looked for in the first most of them
-abbrev pub AreCodeLines : Format → Option GroupSet → List ℕ → ℕ → List ℕ → ℕ → ℕ → List ℕ → Type 0
+abbrev pub AreCodeLines : Format → Option Target → List ℕ → ℕ → List ℕ → ℕ → ℕ → List ℕ → Type 0
 AreCodeLines format target file most b zero seen lines = (seen ≡ 0) × (lines ≡ [])
 AreCodeLines format target file most b (suc n) seen lines =
     (earlier : ℕ) × ((before : List ℕ) × ((found : Option Finding)

@@ -2,6 +2,8 @@ pub mod Escape
 pub mod CauseNames
 pub mod KeyLines
 pub mod Lines
+pub mod Linux
+pub mod Items
 pub mod Findings
 pub mod Json
 pub mod Github

@@ -16,7 +16,7 @@ use crate::escape::escaped;
 use crate::github::{Part, github_text};
 use crate::json::{json_line, json_text};
 use crate::reports::put_report;
-use bpf_insn::GroupSet;
+use crate::target::Target;
 use bpf_object::{AcceptedObject, ObjectError, ObjectFault};
 use std::alloc::{AllocError, Allocator};
 use std::io::Write;
@@ -80,7 +80,7 @@ fn put_accepted<A: Allocator + Copy, O: Write, E: Write>(
     lines: &mut O,
     messages: &mut E,
     format: Format,
-    target: Option<GroupSet>,
+    target: Option<Target>,
     name: &str,
     object: &AcceptedObject<'_>,
     most: usize,
@@ -202,7 +202,7 @@ pub fn put_check<A: Allocator + Copy, O: Write, E: Write>(
     lines: &mut O,
     messages: &mut E,
     format: Format,
-    target: Option<GroupSet>,
+    target: Option<Target>,
     name: &str,
     bytes: &[u8],
 ) -> Result<Status, Stop>

@@ -18,8 +18,8 @@ use crate::json::{json_line, json_text};
 use crate::names::name_text;
 use crate::reports::{put_if_long, put_report};
 use crate::sources::{github_source, json_source, known, text_source};
+use crate::target::Target;
 use bpf_elf::FILE_LIMIT;
-use bpf_insn::GroupSet;
 use bpf_object::{AcceptedObject, SourceLine};
 use std::alloc::{AllocError, Allocator};
 use std::io::Write;
@@ -143,7 +143,7 @@ fn line_if<A: Allocator + Copy>(
 }
 
 /// What is reported of a section, if anything is.
-fn finding(target: Option<GroupSet>, object: &AcceptedObject<'_>, i: usize) -> Option<Finding>
+fn finding(target: Option<Target>, object: &AcceptedObject<'_>, i: usize) -> Option<Finding>
     requires { i < count object.now }
     ensures { IsFoundIn target object.now i result }
 {
@@ -172,7 +172,7 @@ pub fn put_code_lines<A: Allocator + Copy, O: Write, E: Write>(
     lines: &mut O,
     messages: &mut E,
     format: Format,
-    target: Option<GroupSet>,
+    target: Option<Target>,
     name: &str,
     object: &AcceptedObject<'_>,
     most: usize,

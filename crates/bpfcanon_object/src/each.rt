@@ -8,7 +8,7 @@ use crate::answer::Status;
 use crate::check::{Format, put_check};
 use crate::desk::{Desk, Stop};
 use crate::key::key_answer;
-use bpf_insn::GroupSet;
+use crate::target::Target;
 use std::alloc::Allocator;
 use std::io::Write;
 
@@ -18,7 +18,7 @@ pub enum Each {
     /// `key`.
     Key,
     /// `check`, with a target if there is one.
-    Check(Format, Option<GroupSet>),
+    Check(Format, Option<Target>),
 }
 
 impl Each {

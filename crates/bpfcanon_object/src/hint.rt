@@ -3,10 +3,6 @@
 use crate::words::REVIEW;
 use std::alloc::{AllocError, Global};
 
-/// What is said of a group of a target that is none.
-const CPU: &str =
-    "-mcpu=v1 to v4 of clang are no conformance groups: see \"Instructions by kernel version\" in FORMATS.md";
-
 /// What is said of the output of a command that has one.
 const OUTPUT: &str = "only canon has --output: the other commands write to standard output";
 
@@ -15,17 +11,6 @@ const ORDER: &str = "a canonical file has the byte order of its original";
 
 /// What is said of a file in the place of a command.
 const FIRST: &str = "the command comes before the files, as in bpfcanon-object key FILE";
-
-/// Whether a word, or what follows `--target=` in it, is a version of clang's -mcpu.
-fn is_cpu(word: &str) -> bool {
-    let value = word.strip_prefix("--target=").unwrap_or(word);
-    value == "v1" || value == "v2" || value == "v3" || value == "v4"
-}
-
-/// Whether a word gives a target.
-fn is_target(word: &str) -> bool {
-    word.starts_with("--target")
-}
 
 /// Whether a word gives an output.
 fn is_output(word: &str) -> bool {
@@ -44,10 +29,6 @@ fn hint_behind(verb: &str, words: &[String]) -> Option<&'static str> {
     }
     if verb != "canon" && words.iter().any(|word| is_output(word.as_str())) {
         return Some(OUTPUT);
-    }
-    let has_target = words.iter().any(|word| is_target(word.as_str()));
-    if has_target && words.iter().any(|word| is_cpu(word.as_str())) {
-        return Some(CPU);
     }
     None
 }

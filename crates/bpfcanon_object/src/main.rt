@@ -17,9 +17,11 @@ mod finding;
 mod folder;
 mod github;
 mod hint;
+mod items;
 mod json;
 mod key;
 mod key_list;
+mod linux;
 mod machine;
 mod names;
 mod peek;
@@ -30,6 +32,7 @@ mod run;
 mod same;
 mod sources;
 mod target;
+mod target_name;
 mod words;
 
 use crate::answer::Status;
@@ -39,7 +42,6 @@ use crate::desk::{Desk, Stop};
 use crate::escape::escaped;
 use crate::hint::{hint, without_tips};
 use crate::run::run;
-use crate::target::group_names;
 use crate::words::{Request, program, request_of, shown_word};
 use clap::error::ErrorKind;
 use std::alloc::{AllocError, Global};
@@ -65,8 +67,7 @@ fn printed(alloc: Global, words: &[String]) -> Result<Vec<String>, AllocError> {
 fn explain<R: Print + Eprint + AllocGlobal>(rt: &R, words: &[String]) -> Result<Status, Stop> {
     let alloc = rt.alloc();
     let shown = printed(alloc, words)?;
-    let groups = group_names(alloc)?;
-    let command = program(alloc, Format::NAMES.as_slice(), groups.as_slice())?;
+    let command = program(alloc, Format::NAMES.as_slice())?;
     let Err(error) = command.try_get_matches_from(shown.as_slice()) else {
         return Ok(report(rt, "the arguments are wrong"));
     };
@@ -109,8 +110,7 @@ fn run_words(rt: &HostRuntime, words: &[String]) -> Result<Status, Stop> {
     if asks_version(words) {
         return run_request(rt, Request::Version);
     }
-    let groups = group_names(rt.alloc())?;
-    let command = program(rt.alloc(), Format::NAMES.as_slice(), groups.as_slice())?;
+    let command = program(rt.alloc(), Format::NAMES.as_slice())?;
     match command.try_get_matches_from(words) {
         Ok(matches) => match request_of(&matches) {
             Some(request) => run_request(rt, request),

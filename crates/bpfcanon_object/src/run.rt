@@ -11,7 +11,7 @@ use crate::key::Key;
 use crate::key_list::{read_row, row_answer, unread_row_answer};
 use crate::reason::{Role, reason_of};
 use crate::same::same_answer;
-use crate::target::target_of;
+use crate::target_name::{TARGETS, is_group, target_of};
 use crate::words::{Request, VERSION, shown_word};
 use std::alloc::Global;
 use std::io::{Error, Write};
@@ -231,16 +231,30 @@ fn run_lists<R: Files + Input + AllocGlobal, O: Write, E: Write>(
     Ok(())
 }
 
-/// Checks files, with a target if its groups are given.
+/// Says which of the names of a target isn't known, or stands alone.
+fn refuse_target<O: Write, E: Write>(
+    alloc: Global,
+    desk: &mut Desk<O, E>,
+    names: &[&str],
+) -> Result<(), Stop> {
+    let wrong = names.iter().find(|name| !is_group(name));
+    let name = format!(in alloc; "--target {}", shown_word(wrong.copied().unwrap_or("")))?;
+    desk.put(&trouble_answer(alloc, name.as_str(), TARGETS)?)
+}
+
+/// Checks files, with a target if its names are given.
 fn run_check<R: Files + Input + AllocGlobal + Clone + Drop, O: Write, E: Write>(
     rt: &R,
     desk: &mut Desk<O, E>,
     format: Format,
-    groups: Option<&[&str]>,
+    names: Option<&[&str]>,
     files: &[&str],
 ) -> Result<(), Stop> {
-    let target = match groups {
-        Some(names) => Some(target_of(rt.alloc(), names)?),
+    let target = match names {
+        Some(names) => match target_of(rt.alloc(), names)? {
+            Some(target) => Some(target),
+            None => return refuse_target(rt.alloc(), desk, names),
+        },
         None => None,
     };
     run_files(rt, desk, Each::Check(format, target), files)
@@ -264,9 +278,9 @@ pub fn run<R: Files + Input + AllocGlobal + Clone + Drop, O: Write, E: Write>(
         Request::Same { first, second } => run_same(rt, desk, first, second),
         Request::Check {
             format,
-            groups,
+            target,
             files,
-        } => run_check(rt, desk, format, groups, files),
+        } => run_check(rt, desk, format, target, files),
         Request::Version => desk.put_bytes(VERSION.as_bytes()),
     }
 }

@@ -1,74 +1,99 @@
-//! The target of `check`: the conformance groups that it has (RFC 9669 section 2.4), and the first
-//! instruction that is in none of them.
+//! The target of `check`: conformance groups (RFC 9669 section 2.4), a release of Linux or a version
+//! of LLVM's instruction set, and what is reported of code that isn't in it.
 
-ghost use Rattle.std.specs.Prelude.{◌≡◌, List, Some, IfOk, filter, map};
-ghost use Rattle.bpf_insn.specs.{declared.insn.Insn.Insn, Encoding.InsnFile};
-ghost use Rattle.bpf_insn.specs.GroupSets.{IsSetOf};
+ghost use Rattle.std.specs.Prelude.{◌≡◌};
 ghost use Rattle.bpfcanon_object.specs.Code.{IsFound};
 ghost use Rattle.bpfcanon_object.specs.Target as spec;
-ghost use Rattle.bpfcanon_object.specs.Target.{groups_named};
 
 use crate::finding::{Finding, Reason};
-use bpf_insn::{Group, GroupSet, Order, group_of, read_insn};
-use std::alloc::{AllocError, Allocator};
+use crate::items::{Need, read_item};
+use crate::linux::{Cpu, Linux};
+use bpf_insn::{GroupSet, Order};
 
-/// The names of all groups.
-pub fn group_names<A: Allocator>(alloc: A) -> Result<Vec<&'static str, A>, AllocError>
-    ensures { IfOk result (λ names. map (λ name. name.now) names.items ≡ spec.group_names) }
-{
-    Group::ALL.iter().map(|group| group.name()).collect(alloc)
+/// What runs code.
+#[derive(Clone, Copy, Debug, PartialEq, Eq)]
+pub enum Target {
+    /// Something with these conformance groups.
+    Groups(GroupSet),
+    /// A release of Linux.
+    Release(Linux),
+    /// Something with a version of LLVM's instruction set.
+    Version(Cpu),
 }
 
-/// Whether a group is named.
-fn is_named(names: &[&str], group: Group) -> bool
-    ensures { result ≡ spec.is_named names.now group }
-{
-    names.iter().any(|name| *name == group.name())
+impl Target {
+    /// Whether it has what an instruction needs.
+    fn has(self, need: Need) -> bool
+        ensures { result ≡ spec.has self need }
+    {
+        match self {
+            Target::Groups(groups) => match need.group {
+                Some(group) => groups.has(group),
+                None => false,
+            },
+            Target::Release(linux) => need.addition.linux().is_until(linux),
+            Target::Version(cpu) => need.addition.cpu().number() <= cpu.number(),
+        }
+    }
+
+    /// What it lacks for an instruction.
+    fn lacking(self, need: Need) -> Reason
+        ensures { result ≡ spec.lacking self need }
+    {
+        match self {
+            Target::Groups(_) => match need.group {
+                Some(group) => Reason::Outside(group),
+                None => Reason::Release(need.addition),
+            },
+            Target::Release(_) => Reason::Release(need.addition),
+            Target::Version(_) => Reason::Version(need.addition),
+        }
+    }
 }
 
-/// Those of some groups that are named.
-fn named_among<A: Allocator>(
-    alloc: A,
-    groups: &[Group],
-    names: &[&str],
-) -> Result<Vec<Group, A>, AllocError>
-    ensures { IfOk result (λ named. named.items ≡ filter (spec.is_named names.now) groups.now) }
+/// What is reported of an instruction at an offset, if it isn't in the target.
+fn outside_at(target: Option<Target>, pos: u64, need: Need) -> Option<Finding>
+    ensures { result ≡ spec.outside_at target pos need }
 {
-    groups
-        .iter()
-        .copied()
-        .filter(|group| is_named(names, *group))
-        .collect(alloc)
+    let target = target?;
+    if target.has(need) {
+        return None;
+    }
+    let reason = target.lacking(need);
+    Some(Finding { pos, reason })
 }
 
-/// The groups with these names, and those that they include. Other names have none.
-pub fn target_of<A: Allocator>(alloc: A, names: &[&str]) -> Result<GroupSet, AllocError>
-    ensures { IfOk result (IsSetOf (groups_named names.now)) }
+/// The first of two findings.
+fn first_of(found: Option<Finding>, other: Option<Finding>) -> Option<Finding>
+    ensures { result ≡ spec.first_of found other }
 {
-    let groups = named_among(alloc, &Group::ALL, names)?;
-    Ok(GroupSet::from(groups.as_slice()))
+    match found {
+        Some(found) => Some(found),
+        None => other,
+    }
 }
 
-/// The first of the instructions that isn't in the target, if there is one.
-pub fn first_outside(order: Order, bytes: &[u8], target: GroupSet) -> Option<Finding>
-    requires { (insns : List Insn) × InsnFile order bytes.now insns }
-    ensures { IsFound order (Some target) bytes.now result }
+/// What is reported of instructions, if anything is: their fault, or the first one that isn't in the
+/// target.
+pub fn found_by_item(order: Order, target: Option<Target>, bytes: &[u8]) -> Option<Finding>
+    ensures { IsFound order target bytes.now result }
 {
+    let mut outside = None;
     let mut pos = 0;
     while pos < bytes.len() {
-        let Ok(read) = read_insn(order, &bytes[pos..]) else {
-            return None;
-        };
-        let (insn, len) = read;
-        let group = group_of(insn);
-        if !target.has(group) {
-            let reason = Reason::Outside(group);
-            return Some(Finding {
-                pos: pos as u64,
-                reason,
-            });
+        match read_item(order, &bytes[pos..]) {
+            Ok(read) => {
+                let (need, len) = read;
+                outside = first_of(outside, outside_at(target, pos as u64, need));
+                pos += len;
+            }
+            Err(fault) => {
+                let fault = fault.moved_by(pos as u64);
+                let reason = Reason::Fault(fault.cause);
+                let pos = fault.pos;
+                return Some(Finding { pos, reason });
+            }
         }
-        pos += len;
     }
-    None
+    outside
 }

@@ -60,8 +60,8 @@ pub enum Request<'a> {
     Check {
         /// How the answers are written.
         format: Format,
-        /// The names of the groups of the target, if there is one.
-        groups: Option<&'a [&'a str]>,
+        /// The names of the target, if there is one.
+        target: Option<&'a [&'a str]>,
         /// The files.
         files: &'a [&'a str],
     },
@@ -119,17 +119,14 @@ fn same_command<'a>(alloc: Global) -> Result<Command<'a>, AllocError> {
         .arg(file_arg(alloc, "second", "The second object file, or -").value_name("SECOND"))
 }
 
-fn check_command<'a>(
-    alloc: Global,
-    formats: &'a [&'a str],
-    groups: &'a [&'a str],
-) -> Result<Command<'a>, AllocError> {
+fn check_command<'a>(alloc: Global, formats: &'a [&'a str]) -> Result<Command<'a>, AllocError> {
     let target = Arg::new(alloc, "target")
         .long("target")
-        .value_name("GROUPS")
+        .value_name("TARGET")
         .value_delimiter(',')
-        .value_parser(groups)
-        .help("Also reports the first instruction in none of these conformance groups (RFC 9669)");
+        .help(
+            "Also reports the first instruction outside a target: linux-3.18 to linux-6.18, v1 to v4 (clang's -mcpu), or conformance groups (RFC 9669)",
+        );
     let format = Arg::new(alloc, "format")
         .long("format")
         .value_name("FORMAT")
@@ -145,12 +142,8 @@ fn check_command<'a>(
         .arg(files_arg(alloc, "Object files and folders, or - for standard input"))
 }
 
-/// The command line. It borrows the names of the formats and of the groups.
-pub fn program<'a>(
-    alloc: Global,
-    formats: &'a [&'a str],
-    groups: &'a [&'a str],
-) -> Result<Command<'a>, AllocError> {
+/// The command line. It borrows the names of the formats.
+pub fn program<'a>(alloc: Global, formats: &'a [&'a str]) -> Result<Command<'a>, AllocError> {
     Command::new(alloc, "bpfcanon-object")
         .bin_name("bpfcanon-object")?
         .version(NUMBER)
@@ -160,7 +153,7 @@ pub fn program<'a>(
         .subcommand(canon_command(alloc)?)?
         .subcommand(key_command(alloc)?)?
         .subcommand(same_command(alloc)?)?
-        .subcommand(check_command(alloc, formats, groups)?)
+        .subcommand(check_command(alloc, formats)?)
 }
 
 /// What a command line that clap has accepted asks for.
@@ -182,7 +175,7 @@ where
         }),
         _ => Some(Request::Check {
             format: Format::named(inner.get_str("format")?),
-            groups: inner.get_strs("target"),
+            target: inner.get_strs("target"),
             files: inner.get_strs("files")?,
         }),
     }
