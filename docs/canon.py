@@ -412,8 +412,8 @@ def read_types(elf: Elf) -> Types | None:
     names = [(it.kind, string_at(types.strings, it.words[0])) for it in types.records]
     taken = {("VAR", name) for kind, name in names if kind == "FUNC"}
     taken |= {it for it in names if it[0] in MOVED - {"DATASEC"} and it[1][:1] == b"."}
-    for record, name in zip(types.records, names):
-        rule("TypesNameTaken", start + record.place, name not in taken)
+    for record, kind_and_name in zip(types.records, names):
+        rule("TypesNameTaken", start + record.place, kind_and_name not in taken)
     return types
 
 def read_extension(elf: Elf, types: Types | None) -> list[list[Group]]:
