@@ -51,12 +51,10 @@ def wrong_lines(source):
     return [(number + 1, line) for number, line in enumerate(lines) if NAME.search(line) and not is_passed_on(lines, number)]
 
 
-# Types that were put in order are read back, and a fault of theirs would be reported like this (docs/TRUST.md).
-LINES_OF_READING_BACK = {"bpf_object/src/canon.rt": 2}
 FILES = [path for path in sorted(CRATES.glob("*/src/**/*.rt")) if "tests" not in str(path.relative_to(CRATES))]
 
 
 @pytest.mark.parametrize("path", FILES, ids=lambda path: str(path.relative_to(CRATES)))
 def test_source(path):
     """Out of memory is passed on."""
-    assert len(wrong_lines(path.read_text())) == LINES_OF_READING_BACK.get(str(path.relative_to(CRATES)), 0)
+    assert not wrong_lines(path.read_text())

@@ -1,11 +1,11 @@
 -- The .BTF of a canonical file keeps the further rules on its records.
-use Rattle.std.proofs.Common.{◌≡◌, ℕ, zero, suc, ◌+◌, ◌*◌, ◌<◌, ◌==◌, ◌&&◌, ◌||◌, Bool, true, false, not, List, [], ◌∷◌, ◌++◌, length, get_or, inl, inr, refl, sym, ap, subst, ◌∙◌, append_assoc, arith}
+use Rattle.std.proofs.Common.{◌≡◌, ℕ, zero, suc, None, ◌+◌, ◌*◌, ◌<◌, ◌==◌, ◌&&◌, ◌||◌, Bool, true, false, not, List, [], ◌∷◌, ◌++◌, length, get_or, inl, inr, refl, sym, ap, subst, ◌∙◌, append_assoc, arith}
 use Rattle.std.specs.{Prelude.nat_le, Prelude.slice_index, List.All, List.AllZip, List.flat_map}
 use Rattle.std.proofs.lemmas.Bool.{cases_Bool, ne_eqb, or_right, not-true}
 use Rattle.std.proofs.lemmas.List.{get_or_at, get_or-append-add, Elements.All-head, Elements.All-tail}
 use Rattle.bpf_elf.specs.Kinds.{is_reserved}
 use Rattle.bpf_elf.specs.Names.{string_at}
-use Rattle.bpf_elf.specs.Rules.{AllHold, each}
+use Rattle.bpf_elf.specs.Rules.{AllHold, each, rule, broken}
 use Rattle.bpf_elf.proofs.RuleLemmas.{both_hold, first_hold, rest_hold, each_holds}
 use Rattle.btf_raw.specs.KindNumbers.{FWD, FUNC, VAR, DATASEC, TYPE_TAG}
 use Rattle.btf_raw.specs.{Heads.bit, Kinds.one_of, Kinds.is_struct, Kinds.item_words, Kinds.has_item_names, Names.IsWithoutNul, Names.TextAt}
@@ -19,6 +19,7 @@ use Rattle.btf_types.proofs.{Lists.zip_at, Members.Has, Encoded.numbers, Encoded
 use Rattle.btf_types.proofs.{CheckLemmas.RoleSteps.named_words, FaultlessLemmas.FaultlessRecords.bit_fields_there, StringLemmas.Texts.Has-kept, StringLemmas.Texts.text_at_offset}
 use Rattle.bpf_canon.specs.btf.CanonicalBtf.{canonical_flag, words_of_item, record_words}
 use Rattle.bpf_canon.proofs.BtfLemmas.CanonicalEncodes.{flag_encodes}
+use Rattle.bpf_object.specs.declared.fault.ObjectCause.TheVariants as cause
 use Rattle.bpf_object.specs.Canonical.{strings_of, offset_of}
 use Rattle.bpf_object.specs.Types.{TypesSection, form_rules, leads_to_name, has_long_name, is_reserved_section, is_flagged, head_rules, item_name, item_rules, named_items, record_rules, records_start, record_offset, rules_of, name_rules, all_rules}
 use Rattle.bpf_object.specs.{TypesFaults.KeepsTypes, Lines.any_of}
@@ -243,3 +244,16 @@ frame_free x s keeps k there =
 -- and no record has a name that is too long
 pub frame_short : (x : TypesSection) (s : SectionWords) → KeepsTypes x s → (k : ℕ) → k < length s.frames → has_long_name s.strings (get_or s.frames k []) ≡ false
 frame_short x s keeps k there = not-true (has_long_name s.strings (get_or s.frames k [])) (rule_holds _ _ _ (rule_holds _ _ _ (head_holds x s keeps k there)).1).0
+
+-- nor a kind_flag without meaning
+pub frame_plain : (x : TypesSection) (s : SectionWords) → KeepsTypes x s → (k : ℕ) → k < length s.frames → is_flagged (get_or s.frames k []) ≡ false
+frame_plain x s keeps k there =
+    let f = get_or s.frames k [] in
+    let pos = record_offset (records_start x s) s k in
+    let others =
+    rule cause.TypesName pos (leads_to_name s.strings (name_word f))
+    ∷ rule cause.TypesName pos (not (has_long_name s.strings f))
+    ∷ rule cause.TypesSection pos (not (is_reserved_section s.strings f))
+    ∷ [] in
+    let last = rest_hold others (rule cause.TypesFlag (pos + 4) (not (is_flagged f)) ∷ []) (head_holds x s keeps k there) in
+    not-true (is_flagged f) (rule_holds (not (is_flagged f)) (broken cause.TypesFlag (pos + 4)) None last).0

@@ -27,7 +27,7 @@ use Rattle.bpf_object.proofs.WrittenExtension.{extension_is}
 
 -- ---- the strings of groups are among the noted ones
 
-all_in : {A : Type 0} (P : ℕ → Type 0) (f : A → List ℕ) (xs : List A) → All P (flat_map f xs) → All (λ x. All P (f x)) xs
+pub all_in : {A : Type 0} (P : ℕ → Type 0) (f : A → List ℕ) (xs : List A) → All P (flat_map f xs) → All (λ x. All P (f x)) xs
 all_in P f [] each = All-nil (λ x. All P (f x))
 all_in P f (x ∷ xs) each =
     All-cons (λ x. All P (f x)) x xs (All-front P (f x) (flat_map f xs) each) (all_in P f xs (All-back P (f x) (flat_map f xs) each))

@@ -83,14 +83,15 @@ pub mod KeyLemmas
 pub mod SortedKeys
 pub mod SortedGroups
 pub mod OrderFound
-pub mod OrderedBytes
+pub mod WordBytes
 pub mod RewrittenTypes
 pub mod OrderedValid
 pub mod RenewedWords
 pub mod OrderedFaults
 pub mod RewrittenValid
-pub mod OrderedFiles
 pub mod SourceLemmas
 pub mod NameEnds
 pub mod NameLists
 pub mod NameOffsets
+pub mod PlacedWords
+pub mod WritableRecords

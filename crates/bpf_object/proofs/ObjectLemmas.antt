@@ -20,7 +20,7 @@ use Rattle.bpf_object.specs.Lines.{accesses_rules, section_rules, extension_rule
 use Rattle.bpf_object.specs.ObjectFaults.{IsFault, of_elf, without_types, of_types, of_extension, of_result, IsWithoutTypesFault, IsFaultOfTypes, IsFaultOfExtension, IsFaultOfResult, IsTooLarge, Fails, FailsToFit}
 use Rattle.bpf_object.specs.Objects.{ObjectTypes, Object}
 use Rattle.bpf_object.specs.TypeOrder.{new_number, IsOrder, ordered}
-use Rattle.bpf_object.specs.private.{TypeSteps.numbered, OrderedTypes.Keeps, OrderedTypes.HoldsOrdered}
+use Rattle.bpf_object.specs.private.{TypeSteps.numbered, TypeSteps.renewed_frames, TypeSteps.AreNumbered, OrderedTypes.Keeps, WrittenRecords.renewed}
 use Rattle.bpf_object.specs.declared.source.Source.{Source}
 use Rattle.bpf_object.specs.{Sources.section, Sources.HasParts, private.WrittenTypes.IsRead, private.WrittenTypes.AreTooLong}
 use Rattle.bpf_object.specs.Types.{TypesSection}
@@ -212,39 +212,35 @@ long_types b t (inr over) =
 abbrev pub ContentsAre : Order → ObjectTypes → Option (List ℕ) → Option (List ℕ) → Type 0
 ContentsAre o t types extension = (btf_fits o t ≡ true) × ((types ≡ btf_content o (Some t)) × (extension ≡ extension_content o (Some t)))
 
--- records with the new numbers of a list
-same_types : (b : List ℕ) (w : SectionWords) (numbers : List ℕ) (x : Section) (h : HoldsOrdered b w numbers) → object_types (numbered numbers) w x ≡ typed h.ids h.source x
-same_types b w numbers x h =
-    ap (λ (v : SectionWords). object_types (numbered numbers) v x) h.is
-    ∙ (λ i. object_types (λ id. h.order.each id i) (ordered h.ids h.source) x)
-
-module _ (b : List ℕ) (w : SectionWords) (numbers : List ℕ) (x : Section) (h : HoldsOrdered b w numbers) (own : x ≡ extension_of b w.strings) where
+module _ (b : List ℕ) (s : SectionWords) (ids numbers : List ℕ) (x : Section) (keeps : Keeps b s) (are : AreNumbered s ids numbers) (own : x ≡ extension_of b s.strings) where
   abbrev t : ObjectTypes
-  t = typed h.ids h.source (extension_of b h.source.strings)
+  t = typed ids s (extension_of b s.strings)
+
+  abbrev new_types : ObjectTypes
+  new_types = object_types (numbered numbers) (renewed s ids numbers) x
 
   holds : HoldsTypes b t
-  holds = held b h.source h.ids h.keeps h.order.order
+  holds = held b s ids keeps are.order
 
-  own_section : x ≡ extension_of b h.source.strings
-  own_section = own ∙ ap (λ (v : SectionWords). extension_of b v.strings) h.is
-
-  types_is : object_types (numbered numbers) w x ≡ t
-  types_is = same_types b w numbers x h ∙ ap (typed h.ids h.source) own_section
+  types_is : new_types ≡ t
+  types_is =
+      (λ i. object_types (λ id. are.each id i) (record { order = s.order; strings = s.strings; frames = renewed_frames s (λ id. are.each id i) ids }) x)
+      ∙ ap (typed ids s) own
 
   order_is : x.order ≡ order_of b
-  order_is = ap (λ (y : Section). y.order) own_section
+  order_is = ap (λ (y : Section). y.order) own
 
-  pub typed_large : (f : ObjectFault) (limit : ℕ) → limit ≡ result_limit (length b) → AreTooLong limit x.order (object_types (numbered numbers) w x) → IsTooLarge f → IsFault b f
+  pub typed_large : (f : ObjectFault) (limit : ℕ) → limit ≡ result_limit (length b) → AreTooLong limit x.order (new_types) → IsTooLarge f → IsFault b f
   typed_large f limit most over is =
-      let here = subst (λ (o : Order). AreTooLong limit o (object_types (numbered numbers) w x)) order_is over in
+      let here = subst (λ (o : Order). AreTooLong limit o (new_types)) order_is over in
       let mine = subst (λ (u : ObjectTypes). AreTooLong limit (order_of b) u) types_is here in
       let long = subst (λ (n : ℕ). AreTooLong n (order_of b) t) most mine in
-      of_result (record { held = Some t; elf = h.keeps.elf; types = holds; large = long_types b t long; result = is })
+      of_result (record { held = Some t; elf = keeps.elf; types = holds; large = long_types b t long; result = is })
 
   pub typed_file : {T : Type 0} (items : T → List ℕ) (types extension : Option (List ℕ)) (r : Result T ObjectError)
-      → ContentsAre x.order (object_types (numbered numbers) w x) types extension → ((t : Option ObjectTypes) → AreContents (order_of b) t types extension → FitsFile items b t r)
+      → ContentsAre x.order (new_types) types extension → ((t : Option ObjectTypes) → AreContents (order_of b) t types extension → FitsFile items b t r)
       → MatchResult r (λ out. IsCanonicalFile b (items out)) (Fails b)
   typed_file items types extension r contents made =
-      let here = subst (λ (o : Order). ContentsAre o (object_types (numbered numbers) w x) types extension) order_is contents in
+      let here = subst (λ (o : Order). ContentsAre o (new_types) types extension) order_is contents in
       let at = subst (λ (u : ObjectTypes). ContentsAre (order_of b) u types extension) types_is here in
-      with_contents items b (Some t) r h.keeps.elf holds at.0 (made (Some t) (record { types_are = at.1.0; extension_is = at.1.1 }))
+      with_contents items b (Some t) r keeps.elf holds at.0 (made (Some t) (record { types_are = at.1.0; extension_is = at.1.1 }))

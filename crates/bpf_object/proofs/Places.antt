@@ -39,16 +39,6 @@ range_more a (suc n) =
 pub all_more : (n : ℕ) → range_with_len 1 (n + 1) ≡ range_with_len 1 n ++ (n + 1) ∷ []
 all_more n = let at : 1 + n ≡ n + 1 = omega arith in range_more 1 n ∙ ap (λ (m : ℕ). range_with_len 1 n ++ m ∷ []) at
 
-range_from : (a : ℕ) (ids : List ℕ) → ((k : ℕ) → k < length ids → get_or ids k 0 ≡ a + k) → ids ≡ range_with_len a (length ids)
-range_from a [] each = refl
-range_from a (id ∷ ids) each =
-    let first : id ≡ a = each 0 (omega arith) ∙ omega arith in
-    let rest : ids ≡ range_with_len (a + 1) (length ids) = range_from (a + 1) ids (λ k lt. each (suc k) (omega (arith, lt)) ∙ omega arith) in
-    cc
-
-pub range_found : (ids : List ℕ) → ((k : ℕ) → k < length ids → slice_index ids k ≡ k + 1) → ids ≡ range_with_len 1 (length ids)
-range_found ids each = range_from 1 ids (λ k lt. each k lt ∙ omega arith)
-
 -- what a list is after a write to a slice of all of it
 pub written_back : {X : Type 0} (new items : List X) (len : ℕ) → length new ≡ length items → length items ≡ len → take len (new ++ drop (length new) items) ≡ new
 written_back {X = X} new items len same whole =

@@ -76,7 +76,7 @@ module _ (new : ℕ → ℕ) (f : List ℕ) where
       both_same false z = refl
 
 -- if all numbers stay, the record does
-words_again : (f : List ℕ) (g : ℕ → ℕ) (n : ℕ) → ((j : ℕ) → g j ≡ get_or f j 0) → n ≡ length f → tabulate g n ≡ f
+pub words_again : (f : List ℕ) (g : ℕ → ℕ) (n : ℕ) → ((j : ℕ) → g j ≡ get_or f j 0) → n ≡ length f → tabulate g n ≡ f
 words_again f g n same whole =
     same_list (tabulate g n) f (length-tabulate g n ∙ whole)
     (λ i lt. get_or-tabulate g n i 0 (omega (arith, lt, length-tabulate g n)) ∙ same i)

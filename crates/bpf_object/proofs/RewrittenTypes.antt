@@ -1,20 +1,17 @@
--- .BTF that is written with its records in their order.
+-- Records with new numbers have the form of records.
 use Rattle.std.proofs.Common.{◌≡◌, ℕ, zero, suc, ◌+◌, ◌^◌, ◌<◌, ◌≤◌, ◌==◌, Bool, true, false, List, [], ◌∷◌, ◌++◌, length, inl, inr, lit<, sym, ap, subst, ◌∙◌, length-append, arith}
 use Rattle.std.specs.Prelude.{if◌then◌else◌, slice_index}
 use Rattle.std.specs.{List.All}
 use Rattle.std.proofs.lemmas.Bool.{cases_lt, cases_Bool}
 use Rattle.std.proofs.lemmas.List.Elements.{All-nil, All-cons, All-head, All-tail}
 use Rattle.bpf_words.specs.declared.Order.{Order}
-use Rattle.btf_raw.specs.{Header.Cut}
 use Rattle.btf_raw.specs.Frames.{IsFrame, IsAllowed, bytes_of, section_of, kind, vlen}
 use Rattle.btf_raw.specs.Kinds.{tail_words}
-use Rattle.btf_raw.proofs.{Cuts.cut_unique, Frames.frames_cancel, Frames.length-bytes_of}
+use Rattle.btf_raw.proofs.Frames.{length-bytes_of}
 use Rattle.btf_types.specs.{Denotes.HoldsSections, Sections.SectionWords}
-use Rattle.btf_types.proofs.Denoting.{nothing_is_no_frame}
-use Rattle.bpf_object.specs.Canonical.{btf_of}
 use Rattle.bpf_object.specs.TypeOrder.{frame_of, place_from, new_number, is_type_word, renewed_frame, IsOrder, ordered}
-use Rattle.bpf_object.specs.private.TypeSteps.{numbered, AreNumbered, AreInRange, renewed_frames}
-use Rattle.bpf_object.proofs.{CanonBtf.cut_of, DenotesOne.same_words, Places.ids_length, Places.ids_in_range}
+use Rattle.bpf_object.specs.private.TypeSteps.{AreInRange, renewed_frames}
+use Rattle.bpf_object.proofs.Places.{ids_length, ids_in_range}
 use Rattle.bpf_object.proofs.RenewedFrames.{past_end, renewed_length, renewed_at, renewed_info, renewed_kind, renewed_vlen}
 
 -- ---- new numbers have 32 bits
@@ -78,30 +75,3 @@ order_low b s ids held is = new_low ids (omega (arith, records_few b s held, ids
 
 pub ordered_frames : (b : List ℕ) (s : SectionWords) (ids : List ℕ) → HoldsSections b s → IsOrder s ids → All IsFrame (ordered ids s).frames
 ordered_frames b s ids held is = frames_are s (new_number ids) ids held.each (order_low b s ids held is) (ids_in_range (length s.frames) ids is.permutation)
-
--- ---- the section
-
--- a section can be cut into frames in one way
-words_cut : (b : List ℕ) (o : Order) (fs : List (List ℕ)) (strings : List ℕ) (w : SectionWords) → Cut b o (section_of o fs) strings → All IsFrame fs → HoldsSections b w
-    → w ≡ record { order = o; strings = strings; frames = fs }
-words_cut b o fs strings w cut each held =
-    let one = cut_unique b w.order o (section_of w.order w.frames) w.strings (section_of o fs) strings held.cut cut in
-    let sections : section_of o w.frames ++ [] ≡ section_of o fs ++ [] =
-    ap (λ (types : List ℕ). types ++ []) (ap (λ (p : Order). section_of p w.frames) (sym one.order) ∙ one.types) in
-    let frames = frames_cancel o w.frames fs [] [] held.each each (nothing_is_no_frame o) (nothing_is_no_frame o) sections in
-    same_words w (record { order = o; strings = strings; frames = fs }) one.order one.strings frames.frames
-
--- what is read back of records that were written in their order
-pub read_back : (b : List ℕ) (s w : SectionWords) (ids numbers bytes : List ℕ) → HoldsSections b s → AreNumbered s ids numbers
-    → bytes ≡ btf_of s.order (section_of s.order (renewed_frames s (numbered numbers) ids)) s.strings
-    → length (section_of s.order (renewed_frames s (numbered numbers) ids)) ≤ 15728640 → HoldsSections bytes w → w ≡ ordered ids s
-read_back b s w ids numbers bytes held are is few back =
-    let frames : renewed_frames s (numbered numbers) ids ≡ (ordered ids s).frames = λ i. renewed_frames s (λ id. are.each id i) ids in
-    let types = section_of s.order (ordered ids s).frames in
-    let mine : bytes ≡ btf_of s.order types s.strings = is ∙ ap (λ (fs : List (List ℕ)). btf_of s.order (section_of s.order fs) s.strings) frames in
-    let short : length types ≤ 15728640 = subst (λ (fs : List (List ℕ)). length (section_of s.order fs) ≤ 15728640) frames few in
-    let some = held.cut.some_strings in
-    let fit = held.cut.strings_fit in
-    let cut = cut_of s.order types s.strings (omega (arith, short)) fit (λ e. omega (arith, some, e)) in
-    words_cut (btf_of s.order types s.strings) s.order (ordered ids s).frames s.strings w cut (ordered_frames b s ids held are.order)
-    (subst (λ (b : List ℕ). HoldsSections b w) mine back)

@@ -7,7 +7,7 @@ use Rattle.bpf_words.specs.declared.Order.{Order}
 use Rattle.btf_raw.specs.{Header.HasNulEnds}
 use Rattle.btf_raw.specs.Frames.{bytes_of, section_of}
 use Rattle.btf_raw.proofs.{Cuts.cut_unique, Frames.length-bytes_of}
-use Rattle.btf_types.specs.{Denotes.HoldsSections, Sections.SectionWords, Sections.records_in}
+use Rattle.btf_types.specs.{Denotes.HoldsSections, Sections.SectionWords, Sections.records_in, tables.TableInvariant.IsTable}
 use Rattle.btf_types.proofs.TableLemmas.TableSteps.{frames_denote}
 use Rattle.btf_types.proofs.{CheckLemmas.FieldsLaw.fields_have_none, FaultlessLemmas.Faultless.frames_encode, FaultlessLemmas.Faultless.frames_valid}
 use Rattle.bpf_object.specs.Canonical.{btf_of}
@@ -28,7 +28,7 @@ same_sum : (f g : ℕ → ℕ) (ids : List ℕ) → ((id : ℕ) → f id ≡ g i
 same_sum f g ids same = ap (λ (h : ℕ → ℕ). sum_by h ids) (λ i id. same id i)
 
 -- records in another order have the same length
-ordered_bytes : (s : SectionWords) (ids : List ℕ) → IsOrder s ids → length (section_of s.order (ordered ids s).frames) ≡ length (section_of s.order s.frames)
+pub ordered_bytes : (s : SectionWords) (ids : List ℕ) → IsOrder s ids → length (section_of s.order (ordered ids s).frames) ≡ length (section_of s.order s.frames)
 ordered_bytes s ids is =
     let o = s.order in
     let new = new_number ids in
@@ -48,23 +48,39 @@ held_ends b s held =
     let cut = cut_unique b d.order s.order d.types d.strings (section_of s.order s.frames) s.strings d.cut held.cut in
     subst HasNulEnds cut.strings d.nul_ends
 
+-- the records are a table, of no more bytes
+pub ordered_table : (b : List ℕ) (s : SectionWords) (ids : List ℕ) → HoldsSections b s → IsOrder s ids → IsTable (ordered ids s)
+ordered_table b s ids held is =
+    let fs = (ordered ids s).frames in
+    let fit = held.cut.types_fit in
+    let short = held.cut.strings_fit in
+    let few : length (section_of s.order fs) ≤ 33554432 = omega (arith, fit, ordered_bytes s ids is) in
+    let ends = held_ends b s held in
+    let each = ordered_frames b s ids held is in
+    let none = ordered_none s ids is held.each (fields_have_none s.strings (records_in s) s.frames (held_encode b s held) held.denotes.valid) in
+    record {
+      short = short;
+      ends = ends;
+      each = each;
+      none = none;
+      encoded = frames_encode s.strings fs ends each none;
+      valid = frames_valid s.strings fs ends each none s.order short few;
+    }
+
 pub rewritten_of : (b : List ℕ) (s : SectionWords) (ids : List ℕ) → HoldsSections b s → IsOrder s ids → IsRewritten ids s
 rewritten_of b s ids held is =
     let o = s.order in
     let fs = (ordered ids s).frames in
     let types = section_of o fs in
-    let ends = held_ends b s held in
     let fit = held.cut.types_fit in
     let some = held.cut.some_strings in
-    let short = held.cut.strings_fit in
     let few : length types ≤ 33554432 = omega (arith, fit, ordered_bytes s ids is) in
-    let each = ordered_frames b s ids held is in
-    let none = ordered_none s ids is held.each (fields_have_none s.strings (records_in s) s.frames (held_encode b s held) held.denotes.valid) in
-    let cut = cut_of o types s.strings few short (λ e. omega (arith, some, e)) in
+    let table = ordered_table b s ids held is in
+    let cut = cut_of o types s.strings few held.cut.strings_fit (λ e. omega (arith, some, e)) in
     record {
       cut = cut;
-      each = each;
+      each = table.each;
       denotes =
-          frames_denote (btf_of o types s.strings) o types s.strings (records_in (ordered ids s)) fs cut ends (record { each = each; whole = refl })
-          (frames_encode s.strings fs ends each none) (frames_valid s.strings fs ends each none o short few);
+          frames_denote (btf_of o types s.strings) o types s.strings (records_in (ordered ids s)) fs cut table.ends (record { each = table.each; whole = refl })
+          table.encoded table.valid;
     }

@@ -16,3 +16,4 @@ pub mod NameRanks
 pub mod TypeSteps
 pub mod OrderedTypes
 pub mod TakenNames
+pub mod WrittenRecords

@@ -22,7 +22,7 @@ ghost use Rattle.bpf_object.specs.Sources.{section, IsSource};
 ghost use Rattle.bpf_object.specs.TypesFaults.{KeepsTypes, FailsTypes};
 ghost use Rattle.bpf_object.specs.private.WrittenTypes.{IsRead};
 ghost use Rattle.bpf_object.specs.private.Written.{content_of, items_of};
-ghost use Rattle.bpf_object.specs.private.OrderedTypes.{Keeps, HoldsOrdered};
+ghost use Rattle.bpf_object.specs.private.OrderedTypes.{Keeps};
 ghost use Rattle.bpf_object.specs.private.TypeSteps.{AreNumbered};
 
 use crate::access_checks::check_accesses;
@@ -32,9 +32,8 @@ use crate::function_checks::check_functions;
 use crate::line_checks::lines_part;
 use crate::names::TOO_LARGE;
 use crate::object_writer::{result_limit, write_object};
-use crate::ordered_types::ordered_types;
 use crate::source::{Source, renumbered};
-use crate::type_order::{is_same, type_order};
+use crate::type_order::type_order;
 use crate::types::check_types;
 use crate::types_writer::write_types;
 use bpf_elf::{Elf, Kind};
@@ -126,70 +125,26 @@ fn content<A: Allocator>(section: &Option<Vec<u8, A>>) -> Option<&[u8]>
     }
 }
 
-/// The canonical file of a file, from its records in their order and with their new numbers.
+/// The canonical file of a file, from the order of its records and their new numbers.
 fn write_typed<A: Allocator + Copy>(
     alloc: A,
     elf: &Elf<'_>,
     sections: &FileSections<'_>,
+    ids: &[u32],
     x: Source<'_>,
 ) -> Result<Vec<u8, A>, ObjectError>
-    requires types { HoldsOrdered elf.now sections.now x.numbers.now }
+    requires keeps { Keeps elf.now sections.now }
+    requires order { AreNumbered sections.now ids.now x.numbers.now }
     requires own { section x ≡ spec.extension_of elf.now sections.now.strings }
     requires read { IsRead x }
     requires strings { x.strings.now ≡ sections.now.strings }
     ensures { MatchResult result (λ out. IsCanonicalFile elf.now out.items) (Fails elf.now) }
 {
-    let Some(written) = write_types(alloc, sections, x, result_limit(elf))? else {
+    let Some(written) = write_types(alloc, sections, ids, x, result_limit(elf))? else {
         return Err(ObjectError::Fault(TOO_LARGE));
     };
     let extension = content(&written.extension);
     write_object(alloc, elf, Some(written.types.as_slice()), extension)
-}
-
-/// Likewise, from records that aren't in their order. Written in it they have no fault, so only
-/// memory may be short when they are read back.
-fn write_reordered<A: Allocator + Copy>(
-    alloc: A,
-    elf: &Elf<'_>,
-    sections: &FileSections<'_>,
-    ids: &[u32],
-    x: Source<'_>,
-) -> Result<Vec<u8, A>, ObjectError>
-    requires keeps { Keeps elf.now sections.now }
-    requires order { AreNumbered sections.now ids.now x.numbers.now }
-    requires own { section x ≡ spec.extension_of elf.now sections.now.strings }
-    requires read { IsRead x }
-    requires strings { x.strings.now ≡ sections.now.strings }
-    ensures { MatchResult result (λ out. IsCanonicalFile elf.now out.items) (Fails elf.now) }
-{
-    let Some(types) = ordered_types(alloc, sections, ids, x.numbers)? else {
-        return Err(ObjectError::Memory);
-    };
-    let Ok(file) = CheckedFile::check(alloc, &types) else {
-        return Err(ObjectError::Memory);
-    };
-    write_typed(alloc, elf, &file.sections(), x)
-}
-
-/// Likewise, from records whose order is known.
-fn write_in_order<A: Allocator + Copy>(
-    alloc: A,
-    elf: &Elf<'_>,
-    sections: &FileSections<'_>,
-    ids: &[u32],
-    x: Source<'_>,
-) -> Result<Vec<u8, A>, ObjectError>
-    requires keeps { Keeps elf.now sections.now }
-    requires order { AreNumbered sections.now ids.now x.numbers.now }
-    requires own { section x ≡ spec.extension_of elf.now sections.now.strings }
-    requires read { IsRead x }
-    requires strings { x.strings.now ≡ sections.now.strings }
-    ensures { MatchResult result (λ out. IsCanonicalFile elf.now out.items) (Fails elf.now) }
-{
-    if is_same(ids) {
-        return write_typed(alloc, elf, sections, x);
-    }
-    write_reordered(alloc, elf, sections, ids, x)
 }
 
 /// The canonical file of a file whose .BTF and .BTF.ext have been checked.
@@ -208,7 +163,7 @@ fn write_ordered<A: Allocator + Copy>(
 {
     let order = type_order(alloc, sections)?;
     let x = renumbered(x, &order.numbers);
-    write_in_order(alloc, elf, sections, &order.ids, x)
+    write_typed(alloc, elf, sections, &order.ids, x)
 }
 
 /// The canonical file of a file with .BTF.

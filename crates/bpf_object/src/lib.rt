@@ -19,8 +19,9 @@
 //! - `section_groups` finds the group of records of a section, and `source_lines` in it the line of
 //!   an instruction.
 //! - `type_order` finds the order of the records of .BTF, by `type_keys`, `type_layers` and, with
-//!   `name_ranks`, `type_names`, and `ordered_types` writes them in it.
-//! - `extension_file` writes .BTF.ext anew, by `groups` and `extension_writer`.
+//!   `name_ranks`, `type_names`.
+//! - `types_writer` writes .BTF in it, by `record_writer`, and `extension_file` .BTF.ext, by `groups`
+//!   and `extension_writer`.
 //! - `object_writer` writes the file in one pass: the sections by `section_writer`, with the rows of
 //!   `relocation_rows`, then .BTF and .BTF.ext, then the symbols by `symbol_rows`. `names` is the
 //!   string table, `numbering` has the new numbers, and `file_writer` puts the sections together.
@@ -48,8 +49,8 @@ mod name_ranks;
 mod names;
 mod numbering;
 mod object_writer;
-mod ordered_types;
 mod pairs;
+mod record_writer;
 mod relocation_rows;
 mod same;
 mod section_groups;

@@ -86,7 +86,7 @@ fn check_head(strings: &[u8], this: &Record<'_>, pos: u64) -> Result<(), ObjectF
 }
 
 /// The number of items with names.
-fn named_items(this: &Record<'_>) -> usize
+pub(crate) fn named_items(this: &Record<'_>) -> usize
     ensures { result ≡ spec.named_items this.now }
 {
     if has_item_names(this.kind()) {
@@ -98,7 +98,7 @@ fn named_items(this: &Record<'_>) -> usize
 
 /// The field that is the name_off of an item.
 #[tactic(auto, using(crate::proofs::RecordLemmas::item_inside))]
-fn item_name(this: &Record<'_>, k: usize) -> usize
+pub(crate) fn item_name(this: &Record<'_>, k: usize) -> usize
     requires frame { IsFrame this.now }
     requires there { k < spec.named_items this.now }
     ensures value { result ≡ spec.item_name this.now k }

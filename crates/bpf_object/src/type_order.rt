@@ -170,16 +170,3 @@ pub(crate) fn type_order<A: Allocator + Copy>(
     };
     order_of(alloc, &records)
 }
-
-/// Whether the numbers in their new order are in the old one.
-#[tactic(auto, using(crate::proofs::Places::range_found))]
-pub(crate) fn is_same(ids: &[u32]) -> bool
-    ensures { result ≡ true → ids.now ≡ range_with_len 1 (length ids.now) }
-{
-    for k in 0..ids.len() {
-        if ids[k] as usize != k + 1 {
-            return false;
-        }
-    }
-    true
-}

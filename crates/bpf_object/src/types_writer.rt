@@ -7,7 +7,6 @@ ghost use Rattle.std.specs.Prelude.{◌≡◌, ◌+◌, ◌<◌, ◌≤◌, ◌=
 ghost use Rattle.std.specs.Prelude.{IfOk, MatchOption, OnOk};
 ghost use Rattle.std.specs.List.{All, Contains};
 ghost use Rattle.bpf_elf.specs.Header.{FILE_LIMIT};
-ghost use Rattle.btf_types.specs.tables.TableInvariant.{IsTable};
 ghost use Rattle.bpf_canon.specs.btf.strings.{FirstUses.noted_all, NamesByOffset.texts_by_offset};
 ghost use Rattle.bpf_canon.specs.btf.strings.DistinctNames.{distinct_table};
 ghost use Rattle.bpf_canon.specs.btf.write.NameOffsets.{all_offsets};
@@ -15,15 +14,17 @@ ghost use Rattle.bpf_object.specs.declared.extension.Part.TheVariants.{Functions
 ghost use Rattle.bpf_object.specs.Denotes.{object_types};
 ghost use Rattle.bpf_object.specs.Sources.{section};
 ghost use Rattle.bpf_object.specs.private.WrittenTypes as spec;
-ghost use Rattle.bpf_object.specs.private.TypeSteps.{numbered};
+ghost use Rattle.bpf_object.specs.private.TypeSteps.{numbered, AreInRange};
+ghost use Rattle.bpf_object.specs.private.WrittenRecords.{renewed, AreWritable};
 
 use crate::extension::Part;
 use crate::extension_file::write_extension;
 use crate::extension_strings::note_groups;
 use crate::groups::groups_of;
+use crate::record_writer::{note_records, push_records};
 use crate::source::Source;
 use crate::types::TYPES_LIMIT;
-use bpf_canon::{DistinctOffsets, FirstUses, note_names, push_header, push_types};
+use bpf_canon::{DistinctOffsets, FirstUses, push_header};
 use bpf_words::Order;
 use btf_types::FileSections;
 use std::alloc::{AllocError, Allocator};
@@ -52,19 +53,22 @@ fn groups_in<A: Allocator>(alloc: A, x: Source<'_>, part: Part) -> Result<Vec<us
 fn note_both<A: Allocator + Copy>(
     uses: &mut FirstUses<'_, A>,
     sections: &FileSections<'_>,
+    ids: &[u32],
     x: Source<'_>,
     functions: &[usize],
     relocations: &[usize],
 ) -> Result<(), AllocError>
+    requires ids { AreInRange (length sections.now.frames) ids.now }
     requires functions { spec.AreGroups x Functions functions.now }
     requires relocations { spec.AreGroups x Relocations relocations.now }
     requires strings { x.strings.now ≡ sections.now.strings }
     requires uses { uses.old.strings ≡ sections.now.strings }
     ensures strings { uses.new.strings ≡ uses.old.strings }
     ensures offsets { OnOk result (uses.new.offsets
-        ≡ noted_all uses.old.offsets (spec.both_offsets sections.now (section x.entry))) }
+        ≡ noted_all uses.old.offsets (spec.both_offsets
+        (renewed sections.now ids.now x.entry.numbers.now) (section x.entry))) }
 {
-    note_names(uses, sections)?;
+    note_records(uses, sections, ids)?;
     note_groups(uses, x, Part::Functions, functions)?;
     note_groups(uses, x, Part::Relocations, relocations)
 }
@@ -74,22 +78,24 @@ fn note_both<A: Allocator + Copy>(
 fn find_names<'t, A: Allocator + Copy>(
     alloc: A,
     sections: &FileSections<'t>,
+    ids: &[u32],
     x: Source<'_>,
     functions: &[usize],
     relocations: &[usize],
     limit: usize,
 ) -> Result<Option<DistinctOffsets<'t, A>>, AllocError>
     requires limit { limit ≤ 15728640 }
+    requires ids { AreInRange (length sections.now.frames) ids.now }
     requires functions { spec.AreGroups x Functions functions.now }
     requires relocations { spec.AreGroups x Relocations relocations.now }
     requires strings { x.strings.now ≡ sections.now.strings }
-    ensures offsets { let names = spec.both_names sections.now (section x.entry) in
+    ensures { let names = spec.both_names (renewed sections.now ids.now x.entry.numbers.now)
+        (section x.entry) in
         IfOk result (λ found. MatchOption found
         (limit < length (distinct_table (texts_by_offset names))) (λ found. found ≡ names)) }
-    ensures table { IsTable sections.now }
 {
     let mut uses = FirstUses::new(alloc, sections.strings())?;
-    note_both(&mut uses, sections, x, functions, relocations)?;
+    note_both(&mut uses, sections, ids, x, functions, relocations)?;
     DistinctOffsets::find(alloc, uses, limit as u32)
 }
 
@@ -108,13 +114,18 @@ fn write_btf<A: Allocator + Copy>(
     alloc: A,
     order: Order,
     sections: &FileSections<'_>,
+    ids: &[u32],
+    numbers: &[u32],
     names: &DistinctOffsets<'_, A>,
     limit: usize,
 ) -> Result<Option<Vec<u8, A>>, AllocError>
     requires limit { (24 ≤ limit) × (limit ≤ 15728640) }
+    requires writable { AreWritable sections.now ids.now numbers.now }
     requires strings { names.now.strings ≡ sections.now.strings }
-    requires noted { All (Contains names.now.offsets) (all_offsets sections.now.frames) }
-    ensures { let whole = spec.written_btf order sections.now names.now in
+    requires noted { All (Contains names.now.offsets)
+        (all_offsets (renewed sections.now ids.now numbers.now).frames) }
+    ensures { let whole = spec.written_btf order (renewed sections.now ids.now numbers.now)
+        names.now in
         IfOk result (λ found. MatchOption found (limit < length whole)
         (λ out. (length whole ≤ limit) × (out.items ≡ whole))) }
 {
@@ -125,7 +136,7 @@ fn write_btf<A: Allocator + Copy>(
     }
     let mut out = Vec::new(alloc);
     push_header(&mut out, order, types_len as u32, table.len() as u32)?;
-    push_types(&mut out, order, names, sections)?;
+    push_records(&mut out, order, names, sections, ids, numbers)?;
     out.extend_from_slice(table)?;
     Ok(Some(out))
 }
@@ -142,6 +153,7 @@ fn has_extension(functions: &[usize], relocations: &[usize]) -> bool
 fn write_both<A: Allocator + Copy>(
     alloc: A,
     sections: &FileSections<'_>,
+    ids: &[u32],
     x: Source<'_>,
     names: &DistinctOffsets<'_, A>,
     functions: &[usize],
@@ -152,13 +164,16 @@ fn write_both<A: Allocator + Copy>(
     requires functions { spec.AreGroups x Functions functions.now }
     requires relocations { spec.AreGroups x Relocations relocations.now }
     requires strings { x.strings.now ≡ sections.now.strings }
-    requires table { IsTable sections.now }
-    requires names { names.now ≡ spec.both_names sections.now (section x) }
-    ensures { let t = object_types (numbered x.entry.numbers.now) sections.now (section x.entry) in
+    requires writable { AreWritable sections.now ids.now x.numbers.now }
+    requires names { names.now ≡ spec.both_names (renewed sections.now ids.now x.numbers.now)
+        (section x) }
+    ensures { let t = object_types (numbered x.entry.numbers.now)
+        (renewed sections.now ids.now x.entry.numbers.now) (section x.entry) in
         IfOk result (λ found. MatchOption found (spec.AreTooLong limit x.entry.order t)
         (spec.AreWritten x.entry.order t)) }
 {
-    let Some(types) = write_btf(alloc, x.order, sections, names, TYPES_LIMIT.min(limit))? else {
+    let short = TYPES_LIMIT.min(limit);
+    let Some(types) = write_btf(alloc, x.order, sections, ids, x.numbers, names, short)? else {
         return Ok(None);
     };
     if !has_extension(functions, relocations) {
@@ -179,26 +194,38 @@ fn write_both<A: Allocator + Copy>(
 /// The sections .BTF and .BTF.ext of a canonical file, or `None` if .BTF has more than 15 MiB, or one
 /// of them more than `limit` bytes.
 ///
-/// `sections` are the types of the file. `x` is its section .BTF.ext, or empty if it has none. `limit`
-/// is the most bytes of the canonical file.
+/// `sections` are the types of the file, and `ids` their numbers in their new order. `x` is the section
+/// .BTF.ext of the file, or empty if it has none. `limit` is the most bytes of the canonical file.
 pub(crate) fn write_types<A: Allocator + Copy>(
     alloc: A,
     sections: &FileSections<'_>,
+    ids: &[u32],
     x: Source<'_>,
     limit: usize,
 ) -> Result<Option<WrittenTypes<A>>, AllocError>
     requires limit { (65536 ≤ limit) × (limit ≤ FILE_LIMIT) }
     requires extension { spec.IsRead x }
     requires strings { x.strings.now ≡ sections.now.strings }
-    ensures { let t = object_types (numbered x.entry.numbers.now) sections.now (section x.entry) in
+    requires writable { AreWritable sections.now ids.now x.numbers.now }
+    ensures { let t = object_types (numbered x.entry.numbers.now)
+        (renewed sections.now ids.now x.entry.numbers.now) (section x.entry) in
         IfOk result (λ found. MatchOption found (spec.AreTooLong limit x.entry.order t)
         (spec.AreWritten x.entry.order t)) }
 {
     let functions = groups_in(alloc, x, Part::Functions)?;
     let relocations = groups_in(alloc, x, Part::Relocations)?;
     let short = TYPES_LIMIT.min(limit);
-    let Some(names) = find_names(alloc, sections, x, &functions, &relocations, short)? else {
+    let Some(names) = find_names(alloc, sections, ids, x, &functions, &relocations, short)? else {
         return Ok(None);
     };
-    write_both(alloc, sections, x, &names, &functions, &relocations, limit)
+    write_both(
+        alloc,
+        sections,
+        ids,
+        x,
+        &names,
+        &functions,
+        &relocations,
+        limit,
+    )
 }

@@ -7,7 +7,6 @@ use Rattle.bpf_object.specs.Canonical.{btf_of}
 use Rattle.bpf_object.specs.Denotes.{types_at, types_of, rules_of_extension}
 use Rattle.bpf_object.specs.TypesFaults.{KeepsTypes}
 use Rattle.bpf_object.specs.TypeOrder.{ordered}
-use Rattle.bpf_object.specs.private.TypeSteps.{AreNumbered}
 
 -- .BTF and .BTF.ext keep all rules
 pub record Keeps (b : List ℕ) (s : SectionWords) : Type 0 where
@@ -19,11 +18,3 @@ pub record Keeps (b : List ℕ) (s : SectionWords) : Type 0 where
 -- .BTF with its records in this order has no faults of its own
 abbrev pub IsRewritten : List ℕ → SectionWords → Type 0
 IsRewritten ids s = HoldsSections (btf_of s.order (section_of s.order (ordered ids s).frames) s.strings) (ordered ids s)
-
--- these are the records in their order, and their new numbers by the old ones
-pub record HoldsOrdered (b : List ℕ) (w : SectionWords) (numbers : List ℕ) : Type 0 where
-  pub source : SectionWords
-  pub ids : List ℕ
-  pub keeps : Keeps b source
-  pub order : AreNumbered source ids numbers
-  pub is : w ≡ ordered ids source

@@ -8,8 +8,8 @@ use Rattle.bpf_object.proofs.canon.write_ordered.Goals as goal
 pub type_order-requires-clause-few : goal.type_order-requires-clause-few
 type_order-requires-clause-few g c = few_records (types_of c.args.elf.now).bytes c.args.sections.now c.requires.keeps.types.sections
 
-pub write_in_order-requires-clause-order : goal.write_in_order-requires-clause-order
-write_in_order-requires-clause-order g c =
+pub write_typed-requires-clause-order : goal.write_typed-requires-clause-order
+write_typed-requires-clause-order g c =
     let s = c.args.sections.now in
     let order = c.in_ok-order.order in
     subst (λ (ids : List ℕ). AreNumbered s ids c.renumbered-x.result.numbers.now) (sym c.deref-2.ensures.value)
