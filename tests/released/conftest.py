@@ -1,19 +1,17 @@
-"""The release that is tested, two more that are made beside the tests, and chroots of Debian."""
+"""The release that is tested, another one that is made beside the tests, and chroots of Debian."""
 
 import contextlib
 import os
-import pathlib
 import re
 import subprocess
 import sys
 import tarfile
-from typing import NamedTuple
 
 import pytest
 
 from tests import TOP
 from tests.needs import need
-from tests.released.use import RECORD, clone, output
+from tests.released.use import RECORD, clone
 
 # What compilers, packagers, tar and xz read.
 OTHER = {"TZ": "Asia/Tokyo", "LC_ALL": "C", "CC": "false", "AR": "false", "CPPFLAGS": "-DOTHER", "CFLAGS": "-O0", "LDFLAGS": "-Wl,--strip-all"}
@@ -21,14 +19,6 @@ OTHER |= {"DESTDIR": "/none", "DEB_BUILD_OPTIONS": "noopt", "XZ_OPT": "--check=n
 # An older and the present Debian, and what is installed in both.
 SUITES = ["bullseye", "bookworm"]
 PACKAGES = "gcc,libc6-dev,meson,pkg-config,python3-pyelftools,python3-venv,xz-utils"
-
-
-class Release(NamedTuple):
-    """The folder of a release, the tree that it is made of, and what makes it."""
-
-    folder: pathlib.Path
-    tree: pathlib.Path
-    process: subprocess.Popen
 
 
 def dist(tree, out):
@@ -59,21 +49,16 @@ def release_folder(tmp_path_factory):
 
 
 @pytest.fixture(scope="session")
-def beside(release_folder, tmp_path_factory):
-    """The release of another clone in other surroundings, and that of one with a licence."""
+def again(release_folder, tmp_path_factory):
+    """The release of another clone in other surroundings: its folder, and what makes it."""
     folder = tmp_path_factory.mktemp("another place", numbered=False)
-    again, licensed = clone(folder / "again"), clone(folder / "licensed")
-    (licensed / "LICENSE").write_text("A licence that a test has made.\n")
-    output("git", "-C", licensed, "add", "LICENSE")
-    output("git", "-C", licensed, "-c", "user.name=tests", "-c", "user.email=tests@example.org", "commit", "--quiet", "-m", "Add a licence")
-    making = [subprocess.Popen(dist(again, folder / "one"), env=os.environ | OTHER, umask=0o077), subprocess.Popen(dist(licensed, folder / "two"))]
-    return {"again": Release(folder / "one", again, making[0]), "licensed": Release(folder / "two", licensed, making[1])}
+    return folder / "made", subprocess.Popen(dist(clone(folder / "again"), folder / "made"), env=os.environ | OTHER, umask=0o077)
 
 
 @pytest.fixture(scope="session", autouse=True)
-def all_at_once(request, beside):
+def all_at_once(request, again):
     """What takes minutes begins before the first test that waits for it, and has ended after the last one."""
-    processes = [it.process for it in beside.values()]
+    processes = [again[1]]
     with contextlib.suppress(pytest.skip.Exception, pytest.fail.Exception):
         processes += [process for _, process in request.getfixturevalue("chroots").values()]
     yield

@@ -13,10 +13,11 @@ REFUSED = {it: f"{it} is not the one that make check passed; run it again" for i
 REFUSED |= {"README.md": "README.md is not as it was committed", RECORD: "the sources are not those that make check passed; run it again"}
 
 
-def test_same_bytes(release_folder, beside):
-    assert beside["again"].process.wait() == 0
-    again, right = ({it.name: it.read_bytes() for it in folder.iterdir()} for folder in (beside["again"].folder, release_folder))
-    assert again.keys() == right.keys() and [name for name in right if again[name] != right[name]] == []
+def test_same_bytes(release_folder, again):
+    folder, process = again
+    assert process.wait() == 0
+    found, right = ({it.name: it.read_bytes() for it in folder.iterdir()} for folder in (folder, release_folder))
+    assert found.keys() == right.keys() and [name for name in right if found[name] != right[name]] == []
 
 
 def test_sums(release_folder):
