@@ -18,12 +18,14 @@ def write(path, text, mode=0o644):
 
 def settings(home, programs, prefix=None):
     """Puts commands into a folder, by their names, and what the settings name. Returns the environment; it has the C library if that is built."""
-    for path, target in {"go/src/bpfcanon": TOP / "bindings" / "go", **{f"bin/{name}": program for name, program in programs.items()}}.items():
+    links = {"go/src/bpfcanon": TOP / "bindings" / "go"} | {f"bin/{name}": program for name, program in programs.items()}
+    for path, target in links.items():
         (home / path).parent.mkdir(parents=True, exist_ok=True)
         (home / path).symlink_to(target)
     write(home / "gitconfig", "[user]\nname = reader\nemail = reader@example.org\n")
     write(home / "cargo" / "config.toml", CARGO)
-    own = {"PATH": f"{home}/bin:{os.environ['PATH']}", "HOME": str(home), "GIT_CONFIG_GLOBAL": f"{home}/gitconfig", "TEST_TMPDIR": f"{home}/bazel", "PYTHONDONTWRITEBYTECODE": "1"}
+    own = {"PATH": f"{home}/bin:{os.environ['PATH']}", "HOME": str(home), "PYTHONDONTWRITEBYTECODE": "1"}
+    own |= {"GIT_CONFIG_GLOBAL": f"{home}/gitconfig", "TEST_TMPDIR": f"{home}/bazel"}
     own |= {"CARGO_HOME": f"{home}/cargo", "RUSTUP_HOME": os.environ.get("RUSTUP_HOME", f"{pathlib.Path.home()}/.rustup"), "RUSTFLAGS": ""}
     own |= {"GO111MODULE": "off", "GOENV": "off", "GOFLAGS": "", "CGO_ENABLED": "1", "GOPATH": f"{home}/go:{GOCODE}", "GOCACHE": f"{home}/go-cache"}
     if prefix and prefix.exists():

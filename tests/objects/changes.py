@@ -65,7 +65,8 @@ def section_twice(file: ElfFile, draw: Draw) -> None:
 def section_more(file: ElfFile, draw: Draw) -> None:
     contents = [*CONTENTS, *(file.sections[it].content for it in file.of_type(REL))]
     name, content = file.add_string(file.names, draw.one(NAMES)), bytearray(draw.one(contents))
-    row = Section(name, draw.one((PROGBITS, REL)), 0, 0, draw.one((0, file.symbol_table)), draw.one(range(len(file.sections))), 1, 0, content, len(content))
+    kind, link, info = draw.one((PROGBITS, REL)), draw.one((0, file.symbol_table)), draw.one(range(len(file.sections)))
+    row = Section(name, kind, 0, 0, link, info, 1, 0, content, len(content))
     for _ in range(2):
         draw.set_field(row)
     file.insert(draw.one(range(1, len(file.sections) + 1)), row)
@@ -143,7 +144,8 @@ def types(file: ElfFile, draw: Draw) -> None:
         elif how == "name":
             place = draw.one(names)
             old, ends = btf.words[place], [number for number, it in enumerate(btf.strings) if not it]
-            btf.words[place] = draw.one((draw.one(btf.words[it] for it in names), old + 1, draw.one(ends), len(btf.strings), btf.add_string(draw.one(NAMES))))
+            other, end, added = draw.one(btf.words[it] for it in names), draw.one(ends), btf.add_string(draw.one(NAMES))
+            btf.words[place] = draw.one((other, old + 1, end, len(btf.strings), added))
         elif how == "string":
             place = draw.one((draw.one(btf.words[it] for it in names), draw.one(range(len(btf.strings)))))
             btf.strings[place] = draw.one((0, 0x20, 0x41, 0x80, 0xFF, btf.strings[place] ^ 0x20))
@@ -202,8 +204,9 @@ def btf_header(file: ElfFile, draw: Draw) -> None:
 
 
 MEANT: tuple[Change, ...] = (
-    section, section, section, sections, sections, section_twice, section_twice, section_more, section_more, symbol, symbol, symbol, symbols, symbols, symbols,
-    relocations, relocations, header, types, types, types, records, records, strings_of_records, btf_header,
+    section, section, section, sections, sections, section_twice, section_twice, section_more, section_more,
+    symbol, symbol, symbol, symbols, symbols, symbols, relocations, relocations, header,
+    types, types, types, records, records, strings_of_records, btf_header,
 )  # fmt: skip
 
 # ---- what a loader doesn't see
@@ -310,7 +313,8 @@ def types_moved(file: ElfFile, draw: Draw) -> None:
 
 
 KEPT: tuple[Change, ...] = (
-    debug_removed, symbols_reordered, labels_removed, label_added, names_laid_out, type_strings_laid_out, layout_changed, lines_changed, note_added, types_moved,
+    debug_removed, symbols_reordered, labels_removed, label_added, names_laid_out, type_strings_laid_out, layout_changed, lines_changed,
+    note_added, types_moved,
 )  # fmt: skip
 
 

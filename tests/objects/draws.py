@@ -24,7 +24,8 @@ CONTENTS = (
     b"\0" * 8, b"\0" * 32, b"", b"x", b"\xb7\x00\x00\x00\xff\xff\xff\x7f\x95\x00\x00\x00\x00\x00\x00\x00",
 )  # fmt: skip
 NUMBERS = (
-    0, 1, 2, 3, 4, 7, 8, 9, 14, 15, 16, 24, 28, 32, 0x7F, 0xFF, 0x100, 0xFFF1, 0xFFFF, 0x10000, 0x6FFF4C03, 0x7FFFFFFF, 0x80000000, 0xFFFFFFFF, 1 << 40, 1 << 63,
+    0, 1, 2, 3, 4, 7, 8, 9, 14, 15, 16, 24, 28, 32, 0x7F, 0xFF, 0x100, 0xFFF1, 0xFFFF, 0x10000, 0x6FFF4C03, 0x7FFFFFFF, 0x80000000,
+    0xFFFFFFFF, 1 << 40, 1 << 63,
 )  # fmt: skip
 # The fields of rows that change, and of the ELF header, with their forms for `struct`.
 FIELDS = {

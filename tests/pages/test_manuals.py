@@ -67,7 +67,8 @@ def test_zsh(name):
     """The commands with their descriptions, the arguments of each, and the values of options."""
     text = (TOP / "completions" / "zsh" / f"_{name}").read_text()
     arms = re.findall(r"^    (\w[\w|-]*)\) _arguments (.*) ;;$", text, re.MULTILINE)
-    found = {command: {f"--{it}" for it in re.findall(r'"\$(\w+)"', arguments)} - {"--help", "--files"} for commands, arguments in arms for command in commands.split("|")}
+    words = {command: re.findall(r'"\$(\w+)"', arguments) for commands, arguments in arms for command in commands.split("|")}
+    found = {command: {f"--{it}" for it in names} - {"--help", "--files"} for command, names in words.items()}
     assert {command: {*options} for command, options in COMMANDS[name].items() if options or command in found} == found
     assert set(re.findall(r"^    '([\w-]+):", text, re.MULTILINE)) == {*COMMANDS[name]}
     for option in {it for options in COMMANDS[name].values() for it in options}:
