@@ -168,11 +168,6 @@ pair_rules_are x p pairs by_name f l has =
 pub new_name : (by_name : PairsByName) (name : List ℕ) → not (is_some (pair_for by_name name)) ≡ true → pair_for by_name name ≡ None
 new_name by_name name h = not_some (pair_for by_name name) (not-true (is_some (pair_for by_name name)) h)
 
--- whether a map has a pair
-pub some_copied : (o : Option (Bor Pair)) → is_some (option_copied o) ≡ is_some o
-some_copied (Some q) = refl
-some_copied None = refl
-
 -- one value more
 pub pair_pushed : (old new : List (Option Pair)) (pair : Option Pair) (n : ℕ) (f : ℕ → Option Pair) → new ≡ old ++ pair ∷ [] → length old ≡ n
     → ((i : ℕ) → i < n → slice_index_or old i None ≡ f i) → pair ≡ f n → (length new ≡ n + 1) × ((i : ℕ) → i < n + 1 → slice_index_or new i None ≡ f i)

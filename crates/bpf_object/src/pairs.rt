@@ -1,6 +1,6 @@
 //! Groups of functions with their groups of lines, by the names of their sections.
 
-ghost use Rattle.std.specs.Prelude.{◌≡◌, ◌+◌, ◌<◌, ◌≤◌, ◌^◌, is_some, not, false, [], ◌∷◌, MatchResult, OnOk};
+ghost use Rattle.std.specs.Prelude.{◌≡◌, ◌+◌, ◌<◌, ◌≤◌, ◌^◌, is_some, not, false, [], ◌∷◌, IfOk, MatchResult, OnOk};
 ghost use Rattle.bpf_elf.specs.Rules.{rule, AllHold};
 ghost use Rattle.bpf_object.specs.declared.fault.ObjectCause.TheVariants.{ExtensionLines, ExtensionGroupTwice};
 ghost use Rattle.bpf_object.specs.declared.extension.Part.TheVariants.{Functions};
@@ -35,26 +35,18 @@ fn name_of<'a>(x: Source<'a>, part: Part, group: usize) -> &'a [u8]
     string_at(x.strings, word(x, group))
 }
 
-/// Whether a pair is stored by a name.
-fn is_stored<'a, A: Allocator>(
-    by_name: &BTreeMap<(usize, &'a [u8]), Pair, A>,
-    name: &'a [u8],
-) -> bool
-    ensures { result ≡ is_some (spec.pair_for by_name.now name.now) }
-{
-    by_name.get(&(name.len(), name)).is_some()
-}
-
-/// Stores a pair by the name of its section.
+/// Stores a pair by the name of its section, and returns whether there was one.
 fn store_pair<'a, A: Allocator + Copy>(
     by_name: &mut BTreeMap<(usize, &'a [u8]), Pair, A>,
     name: &'a [u8],
     pair: Pair,
-) -> Result<(), AllocError>
-    ensures { OnOk result (spec.StoresPair by_name.old by_name.new name.now pair) }
+) -> Result<bool, AllocError>
+    ensures stored { OnOk result (spec.StoresPair by_name.old by_name.new name.now pair) }
+    ensures before { IfOk result
+        (λ is_stored. is_stored ≡ is_some (spec.pair_for by_name.old name.now)) }
 {
-    by_name.insert((name.len(), name), pair)?;
-    Ok(())
+    let before = by_name.insert((name.len(), name), pair)?;
+    Ok(before.is_some())
 }
 
 /// Checks that no earlier group of functions has the name of a group.
@@ -87,13 +79,12 @@ fn add_pair<'a, A: Allocator + Copy>(
 {
     check_pair(x, functions, part, lines)?;
     let name = name_of(x, Part::Functions, functions);
-    let is_stored = is_stored(by_name, name);
-    check_name(x, functions, is_stored)?;
     let pair = Pair {
         functions: functions as u32,
         lines: lines as u32,
     };
-    store_pair(by_name, name, pair)?;
+    let is_stored = store_pair(by_name, name, pair)?;
+    check_name(x, functions, is_stored)?;
     Ok(())
 }
 

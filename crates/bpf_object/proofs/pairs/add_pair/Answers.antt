@@ -21,8 +21,8 @@ pub returns-in_err-check_name : goal.returns-in_err-check_name
 returns-in_err-check_name g c =
     let s = section c.args.x in
     let f = c.args.functions in
-    let test : c.is_stored-is_stored.result ≡ is_some (pair_for c.args.by_name.now (name_of s f)) =
-    c.is_stored-is_stored.ensures ∙ ap (λ (n : List ℕ). is_some (pair_for c.args.by_name.now n)) c.name_of-name.ensures in
+    let test : c.in_ok-is_stored.is_stored ≡ is_some (pair_for c.args.by_name.now (name_of s f)) =
+    c.in_ok-is_stored.ensures.before ∙ ap (λ (n : List ℕ). is_some (pair_for c.args.by_name.now n)) c.name_of-name.ensures in
     let here =
     next_fault (rule ExtensionLines (s.start + f) (is_pair s c.args.part f c.args.lines) ∷ [])
     (rule ExtensionGroupTwice (s.start + f) (not (is_some (pair_for c.args.by_name.now (name_of s f)))) ∷ []) _ c.in_ok-check_pair.ensures
@@ -33,10 +33,10 @@ pub returns : goal.returns
 returns g c =
     let s = section c.args.x in
     let f = c.args.functions in
-    let test : c.is_stored-is_stored.result ≡ is_some (pair_for c.args.by_name.now (name_of s f)) =
-    c.is_stored-is_stored.ensures ∙ ap (λ (n : List ℕ). is_some (pair_for c.args.by_name.now n)) c.name_of-name.ensures in (
+    let test : c.in_ok-is_stored.is_stored ≡ is_some (pair_for c.args.by_name.now (name_of s f)) =
+    c.in_ok-is_stored.ensures.before ∙ ap (λ (n : List ℕ). is_some (pair_for c.args.by_name.now n)) c.name_of-name.ensures in (
       both_hold (rule ExtensionLines (s.start + f) (is_pair s c.args.part f c.args.lines) ∷ [])
           (rule ExtensionGroupTwice (s.start + f) (not (is_some (pair_for c.args.by_name.now (name_of s f)))) ∷ []) c.in_ok-check_pair.ensures
           (rw test at c.in_ok-check_name.ensures),
-      subst (λ (n : List ℕ). StoresPair c.args.by_name.now c.store_pair.new.by_name n (record { functions = f; lines = c.args.lines })) c.name_of-name.ensures c.in_ok-store_pair.ensures,
+      subst (λ (n : List ℕ). StoresPair c.args.by_name.now c.store_pair.new.by_name n (record { functions = f; lines = c.args.lines })) c.name_of-name.ensures c.in_ok-is_stored.ensures.stored,
     )
