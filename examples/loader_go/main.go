@@ -8,6 +8,7 @@ import (
 	"bytes"
 	"crypto/ed25519"
 	"crypto/x509"
+	"debug/elf"
 	"errors"
 	"fmt"
 	"os"
@@ -48,17 +49,24 @@ func readKey(name string) (ed25519.PublicKey, error) {
 }
 
 // checkVersion refuses objects of low versions. The version of an object is its variable in
-// .rodata.version, which is signed with the rest, or 0 if it has none.
-func checkVersion(spec *ebpf.CollectionSpec) error {
+// .rodata.version, which is signed with the rest, or 0 if it has none. cilium/ebpf leaves sections
+// out that no program uses.
+func checkVersion(object []byte) error {
 	least, err := strconv.ParseUint(leastVersion, 10, 32)
 	if err != nil {
 		return err
 	}
+	file, err := elf.NewFile(bytes.NewReader(object))
+	if err != nil {
+		return fmt.Errorf("open: %w", err)
+	}
 	version := uint32(0)
-	if section := spec.Maps[".rodata.version"]; section != nil && len(section.Contents) == 1 {
-		if value, ok := section.Contents[0].Value.([]byte); ok && len(value) == 4 {
-			version = spec.ByteOrder.Uint32(value)
+	if section := file.Section(".rodata.version"); section != nil && section.Size == 4 {
+		value, err := section.Data()
+		if err != nil {
+			return fmt.Errorf("open: %w", err)
 		}
+		version = file.ByteOrder.Uint32(value)
 	}
 	if uint64(version) < least {
 		return fmt.Errorf("the object has version %d, and only %d or later is loaded", version, least)
@@ -68,12 +76,12 @@ func checkVersion(spec *ebpf.CollectionSpec) error {
 
 // load prints what is in an object, and loads it into the kernel.
 func load(object []byte) error {
+	if err := checkVersion(object); err != nil {
+		return err
+	}
 	spec, err := ebpf.LoadCollectionSpecFromReader(bytes.NewReader(object))
 	if err != nil {
 		return fmt.Errorf("open: %w", err)
-	}
-	if err := checkVersion(spec); err != nil {
-		return err
 	}
 	var lines []string
 	for name := range spec.Maps {
