@@ -90,7 +90,7 @@ class Accepted:
         type, name = it["sh_type"].replace("SHT_", ""), self._string(it["sh_name"])
         head = f"{type} flags={it['sh_flags']:#x} address={it['sh_addr']:#x} size={it['sh_size']}"
         head += f" alignment={it['sh_addralign']} entry_size={it['sh_entsize']}"
-        content = it.data() if type == "PROGBITS" else b""
+        content = b"" if type in ("NOBITS", "REL") else it.data()
         is_code = type == "PROGBITS" and bool(it["sh_flags"] & EXECUTABLE)
         return Section(index, name, labels.next(printed(name)), type, is_code, head, it["sh_info"], content)
 
