@@ -43,15 +43,15 @@ def test_manual(program, tmp_path):
 
 
 def test_objects(object_program, tmp_path):
-    """Keys of two files in a folder, a canonical file, the comparison of two other files, and a check."""
+    """Keys of two files in a folder, a canonical file, the comparison of two other files, and two checks."""
     (tmp_path / "bpfcanon-object").symlink_to(object_program)
     (tmp_path / "objects").mkdir()
     for name, source in ("objects/a", "pass"), ("objects/b", "calls"), ("program", "pass"), ("old", "pass"), ("new", "calls"):
         made = TESTDATA / "objects" / f"{source}.little.{'debug' if source == 'pass' else 'typed'}.o"
         shutil.copy(made, tmp_path / f"{name}.o")
     ran = [run(it, tmp_path) for it in examples("bpfcanon-object.1")]
-    printed = ["objects/a.o: OK\nobjects/b.o: OK\n", "", "different\n", "program.o: accepted\n"]
-    assert [(it.returncode, it.stdout) for it in ran] == list(zip((0, 0, 1, 0), printed))
+    printed = ["objects/a.o: OK\nobjects/b.o: OK\n", "", "different\n", "program.o: accepted\n", "program.o: accepted\n"]
+    assert [(it.returncode, it.stdout) for it in ran] == list(zip((0, 0, 1, 0, 0), printed))
     right = canonical((tmp_path / "program.o").read_bytes())
     assert (tmp_path / "program.canonical.o").read_bytes() == right
 
