@@ -241,6 +241,9 @@ def long_names_of_variables(variables: int, functions: int, length: int) -> byte
 
 
 def variables_and_functions_of_ends(count: int) -> bytes:
-    """As many VAR as FUNC, named by the ends of one string: the shorter ones are those of FUNC."""
-    names = b"\0" + b"n" * (2 * count) + b"\0"
-    return with_functions(names, list(range(1, 1 + count)), list(range(1 + count, 1 + 2 * count)))
+    """As many VAR as FUNC, named by the ends of strings of the greatest length, which differ in their last bytes: in turn those of VAR and of FUNC."""
+    ends, length = MAX_NAME - 4, MAX_NAME + 1
+    strings = count // ends + 1
+    names = b"\0" + b"".join(b"n" * ends + b"%04x\0" % number for number in range(2 * strings))
+    variables, functions = ([1 + length * number + end for number in range(first, 2 * strings, 2) for end in range(ends)][:count] for first in (0, 1))
+    return with_functions(names, variables, functions)
